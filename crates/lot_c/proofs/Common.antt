@@ -1,7 +1,7 @@
 -- The names that this crate's proofs cite, passed on from one place. Declares nothing.
 pub use Rattle.std.proofs.BoxSteps.Form.{B, Bx, D, P, R, args, box_ty, box_typed, word, τ}
 pub use Rattle.std.proofs.BoxSteps.Steps.{box_in, box_out}
-pub use Rattle.std.proofs.Common.{Bool, List, None, Ok, Option, Some, ap, arith, false, get_or, inl, inr, is_none, length, map, nat_le, nat_lt, not, refl, set, slice_get, slice_index, subst, suc, sum, sym, take, true, zero, ℕ, [], ◌&&◌, ◌++◌, ◌+◌, ◌-◌, ◌<◌, ◌^◌, ◌↔◌, ◌∙◌, ◌∷◌, ◌≡◌, ◌≤◌, ◌⊎◌}
+pub use Rattle.std.proofs.Common.{Bool, List, None, Ok, Option, Some, ap, arith, false, find, get_or, inl, inr, is_none, length, map, nat_le, nat_lt, not, refl, set, slice_get, slice_index, subst, suc, sum, sym, take, true, unwrap_or, zero, ℕ, [], ◌&&◌, ◌++◌, ◌+◌, ◌-◌, ◌<◌, ◌==◌, ◌^◌, ◌↔◌, ◌∙◌, ◌∷◌, ◌≡◌, ◌≤◌, ◌⊎◌}
 pub use Rattle.std.proofs.GlobalToken.{dealloc_token-Testable}
 pub use Rattle.std.proofs.Math.Seq.{take-append_seam}
 pub use Rattle.std.proofs.ResultValues.{and_tt}
@@ -10,11 +10,8 @@ pub use Rattle.std.proofs.alloc.Shapes.{after}
 pub use Rattle.std.proofs.cell.Inside.{Good}
 pub use Rattle.std.proofs.lemmas.List.{append_assoc, drop-set-lt, drop_more, length-map, length-set, take_more_set}
 pub use Rattle.std.proofs.lemmas.Nat.{div-add-mod'}
-pub use Rattle.std.proofs.lemmas.Option.{get_or_from_slice_get, slice_get_cases}
 pub use Rattle.std.proofs.option.Made.{Some-of, none_of}
 pub use Rattle.std.specs.Box.Ownership.{box_owns}
-pub use Rattle.std.specs.List.{find}
-pub use Rattle.std.specs.Prelude.{unwrap_or, ◌==◌}
 pub use Rattle.std.specs.contracts.impls.GlobalAllocator.TheImpl.{dict, ghosts}
 pub use Rattle.std.specs.declared.alloc.Global.{Global}
 pub use base.Fml.{Fml, GName, Lft, Share, fbor, fdead, feq, fex, fhide, flft, fobs, fsep, ftrue, fupd, fwand}
@@ -70,7 +67,7 @@ pub use types.Match.{live}
 pub use types.Part.{agg, look_in, sub, whole}
 pub use types.Run.{addr, and_then, bin, blocks, branches, enter, exec, first, fld, lit, load, look, no_more, of_opd, returns, stop}
 pub use types.Tokens.{bor_fracture, bor_open, obor_alter, one_token}
-pub use Rattle.lot_machine.proofs.CommandsKept.{all-pass}
+pub use Rattle.lot_machine.proofs.Common.{QueuedCall, RunsApart, State, at_number, change_record, first_above, is_ready, numbers, option_any, processor_of, ready_threads, running_sums, status_of, thread_in, thread_on, weight_of, winner}
 pub use Rattle.lot_machine.proofs.Idle.{filter-passes, is-ready, there-runs}
 pub use Rattle.lot_machine.proofs.NamedThreads.{winner-within}
 pub use Rattle.lot_machine.proofs.OrderKept.{step-order}
@@ -78,38 +75,11 @@ pub use Rattle.lot_machine.proofs.Queues.{status-now, status-set}
 pub use Rattle.lot_machine.proofs.RecordsKept.{StopsIfLeaves, found-runs, nobody-runs, numbered}
 pub use Rattle.lot_machine.proofs.StepChanges.{checked-leads}
 pub use Rattle.lot_machine.proofs.StepSizes.{checked-sizes, step-limits}
-pub use Rattle.lot_machine.proofs.Tickets.{at_number-suc, some-injective}
-pub use Rattle.lot_machine.specs.Commands.{Step, is_name, is_thread_name, unless_refused}
-pub use Rattle.lot_machine.specs.Facts.{RunsApart}
-pub use Rattle.lot_machine.specs.Lottery.{first_above, running_sums, winner}
-pub use Rattle.lot_machine.specs.Mutexes.{mutex_at}
-pub use Rattle.lot_machine.specs.Named.{processor_of, thread_in}
-pub use Rattle.lot_machine.specs.Numbered.{at_number, numbers, option_any}
-pub use Rattle.lot_machine.specs.Order.{IsInOrder}
-pub use Rattle.lot_machine.specs.Ports.{port_at}
-pub use Rattle.lot_machine.specs.Servers.{before_lock}
-pub use Rattle.lot_machine.specs.State.{QueuedCall, State, change_record, is_ready, ready_threads, status_of, thread_on, weight_of}
-pub use Rattle.lot_machine.specs.Step.{Effect, checked_effect, draw, ends_quantum, event_effect, event_refusal, finish_trap, is_bad_processor, replies, started, state_after, step, stopped, thread_there, trap_effect, trap_refusal, used_there}
-pub use Rattle.lot_machine.specs.Traps.{after_trap, compensation_for, with_ticks}
-pub use Rattle.lot_machine.specs.declared.action.Action.{Action}
-pub use Rattle.lot_machine.specs.declared.action.Action.TheVariants.{Call, Lock, Receive, Serve, Sleep, Unlock, Yield}
-pub use Rattle.lot_machine.specs.declared.after.After.{After}
-pub use Rattle.lot_machine.specs.declared.after.After.TheVariants.{Ends, GoesOn, Leaves}
-pub use Rattle.lot_machine.specs.declared.command.Command.TheVariants.{Fund, Kill, MakeCurrency, MakeFunded, MakeThread, MakeTicket, RemoveCurrency, RemoveThread, RemoveTicket, SetTicket, Unfund}
 pub use Rattle.lot_machine.specs.declared.command.Kind.TheVariants.{Currencies, Threads, Tickets}
-pub use Rattle.lot_machine.specs.declared.drawn.Drawn.{Drawn}
-pub use Rattle.lot_machine.specs.declared.event.Event.{Event}
-pub use Rattle.lot_machine.specs.declared.record.Record.{Record}
-pub use Rattle.lot_machine.specs.declared.record.Status.{Status}
-pub use Rattle.lot_machine.specs.declared.refusal.Refusal.{Refusal}
-pub use Rattle.lot_machine.specs.declared.refusal.Refusal.TheVariants.{BadProcessor, BadTicks, NotRunning}
-pub use Rattle.lot_machine.specs.declared.refusal.TrapRefusal.{TrapRefusal}
-pub use Rattle.lot_machine.specs.declared.reply.Outcome.{Outcome}
 pub use Rattle.lot_machine.specs.declared.reply.Reply.{Reply}
-pub use Rattle.lot_machine.specs.declared.sizes.Sizes.{Sizes}
+pub use Rattle.lot_kernel.proofs.Common.{Action, After, BadProcessor, BadTicks, Call, Drawn, Effect, Ends, Event, Fund, GoesOn, IsInOrder, Kill, Leaves, Lock, MakeCurrency, MakeFunded, MakeThread, MakeTicket, NotRunning, Outcome, Receive, Record, Refusal, RemoveCurrency, RemoveThread, RemoveTicket, Serve, SetTicket, Sizes, Sleep, Snapshot, Status, Step, TrapRefusal, Unfund, Unlock, Yield, after_trap, all-pass, at_number-suc, before_lock, checked_effect, compensation_for, draw, ends_quantum, event_effect, event_refusal, finish_trap, get_or_from_slice_get, is_bad_processor, is_name, is_thread_name, mutex_at, port_at, replies, slice_get_cases, some-injective, started, state_after, step, stopped, thread_there, trap_effect, trap_refusal, unless_refused, used_there, with_ticks}
 pub use Rattle.lot_kernel.specs.Counted.{AreDone, Counts, IsDone}
 pub use Rattle.lot_kernel.specs.Memory.{bytes_of}
-pub use Rattle.lot_kernel.specs.Snapshots.{Snapshot}
 pub use Rattle.lot_c.specs.Calls.{events_meant, fault_or, first_fault, in_front, replies_written, written_by}
 pub use Rattle.lot_c.specs.Events.{event_meant, result_and_then, result_map}
 pub use Rattle.lot_c.specs.Handles.{KernelValue, handle_owns, handle_shares}

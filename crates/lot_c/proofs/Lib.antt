@@ -4,3 +4,4 @@ pub mod Handles
 pub mod Plain
 pub mod Runs
 pub mod Shared
+pub mod Lemmas

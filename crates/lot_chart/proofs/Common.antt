@@ -3,7 +3,6 @@ pub use Rattle.std.proofs.Common.{Bool, Contains, Err, List, None, Ok, Option, R
 pub use Rattle.std.proofs.Math.Nat.{div-eq_of_lt, div-le_of_le-mul, div-mul-le_self, min-eq_left, mul-div-le, mul-le-mul_left, mul-le-mul_right}
 pub use Rattle.std.proofs.lemmas.Bool.{cases_eq, cases_lt, eq-eqb, eqb-false, eqb-true, le-leb, le-ltb, leb-true, lt-leb, lt-ltb, ltb-false, ltb-true}
 pub use Rattle.std.proofs.lemmas.Fmt.{length-decimal-le}
-pub use Rattle.std.proofs.lemmas.Grind.{flat_map-append, get_or-set_at}
 pub use Rattle.std.proofs.lemmas.List.{drop_all, drop_more, ext_get_or, flat_map_more, get_or-map, get_or-set_other, get_or-set_same, get_or-take, get_or_append_left, get_or_default, get_or_push, length-map, length-set, length-take, length_push, map-append, map-set, map_push, take_all, take_at, take_more}
 pub use Rattle.std.proofs.lemmas.List.Concat.{length-flat_map}
 pub use Rattle.std.proofs.lemmas.List.Elements.{All-cons, All-nil, filter-append}
@@ -12,76 +11,24 @@ pub use Rattle.std.proofs.lemmas.List.Sums.{fold_more, sum_by-cons, sum_by-le, s
 pub use Rattle.std.proofs.lemmas.Nat.{le-div, mod_below, mul-le}
 pub use Rattle.std.proofs.lemmas.Option.{get_or_from_slice_get, same_Some, slice_get-get_or, slice_get_cases, slice_get_within}
 pub use Rattle.std.proofs.lemmas.Result.{on_ok_weaker}
-pub use Rattle.std.specs.Fmt.{decimal}
 pub use Rattle.std.specs.Int.{div_ceil}
 pub use Rattle.std.specs.List.{flat_map, list_all, range_with_len}
-pub use Rattle.std.specs.List.Sorted.{IsNonDecreasing}
-pub use Rattle.std.specs.Option.{option_flatten}
 pub use Rattle.std.specs.Prelude.{All, AllPairs, IfOk, IsSome, IsTrue, MatchResult, OnOk, find, option_and_then, slice_index_or, ⊤, ◌↔◌}
 pub use Rattle.std.specs.declared.alloc.AllocError.{AllocError}
 pub use denote.Enum.Bare.{sameb}
-pub use Rattle.lot_machine.proofs.CommandsKept.{all-pass}
-pub use Rattle.lot_machine.proofs.CurrencyFlow.{currency-bounded}
-pub use Rattle.lot_machine.proofs.OrderKept.{opening-order, order-sound, step-order}
-pub use Rattle.lot_machine.proofs.RecordsKept.{found-runs, numbered}
-pub use Rattle.lot_machine.proofs.StepChanges.{Console, Keeps, command-leads, kept}
-pub use Rattle.lot_machine.proofs.StepSizes.{checked-sizes, step-limits}
-pub use Rattle.lot_machine.proofs.Sums.{sum-filter}
-pub use Rattle.lot_machine.proofs.Tickets.{at_number-suc, is_currency-is, some-injective, target-of, ticket_in-suc}
-pub use Rattle.lot_machine.specs.Bounds.{IsBetween, IsWithinBounds}
-pub use Rattle.lot_machine.specs.Change.{NewThread, PutRecord}
-pub use Rattle.lot_machine.specs.Commands.{Step, command_effect, command_refusal, command_step, newborn, unless_refused}
-pub use Rattle.lot_machine.specs.Facts.{IsSound, live_value}
-pub use Rattle.lot_machine.specs.Funding.{Funding, is_currency, ticket_in}
-pub use Rattle.lot_machine.specs.Lends.{is_live}
-pub use Rattle.lot_machine.specs.Lottery.{winner}
-pub use Rattle.lot_machine.specs.Numbered.{at_number, option_any, set_number}
-pub use Rattle.lot_machine.specs.Order.{IsInOrder}
-pub use Rattle.lot_machine.specs.Places.{placed}
-pub use Rattle.lot_machine.specs.Rows.{row_of_thread, thread_name, thread_row}
 pub use Rattle.lot_machine.specs.State.{State, change_record, free_threads, funding_of, live_of, opening, ready_threads, saturated, thread_on, value_of, weight_of}
-pub use Rattle.lot_machine.specs.Step.{checked_effect, draw, event_effect, event_refusal, expire, is_bad_processor, started, step, thread_there, trap, trap_effect, trap_refusal, used_there, wake}
-pub use Rattle.lot_machine.specs.Traps.{after_trap, with_ticks}
-pub use Rattle.lot_machine.specs.declared.action.Action.{Action}
-pub use Rattle.lot_machine.specs.declared.command.Command.{Command}
-pub use Rattle.lot_machine.specs.declared.command.Command.TheVariants.{Kill}
-pub use Rattle.lot_machine.specs.declared.drawn.Drawn.{Drawn}
-pub use Rattle.lot_machine.specs.declared.event.Event.{Event}
 pub use Rattle.lot_machine.specs.declared.event.Event.TheVariants.{Expire}
-pub use Rattle.lot_machine.specs.declared.record.Record.{Record}
-pub use Rattle.lot_machine.specs.declared.record.Status.{Status}
-pub use Rattle.lot_machine.specs.declared.record.Status.TheVariants.{Running}
-pub use Rattle.lot_machine.specs.declared.refusal.Refusal.{Refusal}
-pub use Rattle.lot_machine.specs.declared.refusal.Refusal.TheVariants.{BadProcessor, BadTicks, NotRunning}
-pub use Rattle.lot_machine.specs.declared.reply.Reply.{Reply}
 pub use Rattle.lot_machine.specs.declared.reply.Reply.TheVariants.{Idle}
-pub use Rattle.lot_machine.specs.declared.row.ThreadRow.{ThreadRow}
-pub use Rattle.lot_machine.specs.declared.sizes.Sizes.{Sizes}
-pub use Rattle.lot_machine.specs.declared.ticket.Ticket.{Ticket}
 pub use Rattle.lot_simulation.proofs.ActorCounts.{turns_made-length}
-pub use Rattle.lot_simulation.proofs.DrawnThreads.{number-some}
-pub use Rattle.lot_simulation.proofs.OtherTurns.{event-for, event_for}
+pub use Rattle.lot_simulation.proofs.Common.{Action, ActorTurn, BadProcessor, BadTicks, Console, IsInOrder, IsNonDecreasing, Keeps, Kill, Moment, NewThread, NotRunning, PutRecord, Step, TimedTurn, after_trap, beside, checked-sizes, checked_effect, command-leads, command_effect, command_refusal, command_step, count_in, draw, event_effect, event_refusal, expire, is_bad_processor, kept, last_moment, moment_after, moment_after_all, newborn, opening_moment, started, step, step-limits, thread_there, ticks_in, timed_schedule, timed_turns, total_of, trap, trap_effect, trap_refusal, turns_made, turns_of, unless_refused, used_there, wake, with_ticks}
 pub use Rattle.lot_simulation.proofs.ProcessorCounts.{command-silent}
 pub use Rattle.lot_simulation.proofs.RecordCounts.{Comes, IsMade, actor-made, after-even, as-much, change-leaves, checked-even, comes-same, comes-then, kill-even, there-has, there-numbered}
 pub use Rattle.lot_simulation.proofs.TimedRuns.{timed-made, timed-world, turns-few}
 pub use Rattle.lot_simulation.proofs.TimesRise.{times-rise}
 pub use Rattle.lot_simulation.specs.Below.{currency_numbers, stands_below, worth_of}
-pub use Rattle.lot_simulation.specs.Grammar.{program_in}
-pub use Rattle.lot_simulation.specs.Report.{ActorTurn, beside, count_in, ticks_in, total_of, turns_made, turns_of}
-pub use Rattle.lot_simulation.specs.Script.{Slice}
-pub use Rattle.lot_simulation.specs.Texts.{newline}
-pub use Rattle.lot_simulation.specs.Timed.{Moment, TimedTurn, last_moment, moment_after, moment_after_all, opening_moment, timed_schedule, timed_turns}
 pub use Rattle.lot_simulation.specs.TimedReport.{actor_turns, due_after, due_from, due_in, due_part, due_rate, live_part, live_ticks, live_time, makes, rate_in, tick_parts, time_from}
-pub use Rattle.lot_simulation.specs.World.{IsLegal, Program, TurnAnswer, TurnMade, World, action_of, actor_event, console_turn, event_of_slice, next_name, number_of, opening_world, processor_event, processor_turn, resolved, slice_on, system_after, system_answers, system_run, system_turn}
-pub use Rattle.lot_simulation.specs.World.TurnAnswer.{Answered, Ended}
-pub use Rattle.lot_simulation.specs.declared.input.InputFault.{InputFault}
-pub use Rattle.lot_simulation.specs.declared.script.ScriptTrap.{ScriptTrap}
-pub use Rattle.lot_graph.specs.Found.{FoundNodes, HasFound}
-pub use Rattle.lot_graph.specs.declared.layout.Layout.{Layout}
 pub use Rattle.lot_io.specs.Watching.{Watch}
-pub use Rattle.lot_io.specs.declared.fault.IoFault.{IoFault}
 pub use Rattle.lot_io.specs.declared.fault.IoFault.TheVariants.{Memory}
-pub use Rattle.lot_program.specs.Programs.{IsProgram}
 pub use Rattle.lot_curves.proofs.Ends.{samples-few, ticks-at_last}
 pub use Rattle.lot_curves.specs.Curves.{Curves, command_times, currency_stretches_from, curves_by, curves_of, ended_in_time, name_by, names_by, numbers_by, row_at, sample_count, sample_tick, sample_ticks, scheduled_curves, shown_at, stretches_made, timed_curves_by, timed_stretches, timed_stretches_by, total_at, windowed}
 pub use Rattle.lot_curves.specs.Intervals.{curves_within}
@@ -95,21 +42,18 @@ pub use Rattle.lot_curves.specs.declared.interval.Interval.{Interval}
 pub use Rattle.lot_curves.specs.declared.stretch.Measure.{Measure}
 pub use Rattle.lot_curves.specs.declared.stretch.Measure.TheVariants.{Draws, Ticks}
 pub use Rattle.lot_curves.specs.declared.stretch.Stretch.{Stretch}
-pub use Rattle.lot_engine.proofs.InOrder.{run-in-order}
-pub use Rattle.lot_engine.specs.Searching.{HasLayoutFor, HasThoseAbove}
-pub use Rattle.lot_engine.specs.Seen.{Seen, world_of}
+pub use Rattle.lot_engine.proofs.Common.{HasLayoutFor, HasThoseAbove, IsLegal, Program, TurnAnswer, TurnMade, World, action_of, actor_event, console_turn, event_of_slice, next_name, number-some, number_of, opening-order, opening_world, order-sound, processor_event, processor_turn, resolved, slice_on, step-order, system_after, system_answers, system_run, system_turn}
+pub use Rattle.lot_playback.proofs.Common.{Answered, Answers, Command, Drawn, Ended, Event, FoundNodes, Funding, HasFound, IsBetween, IsDispatch, IsProgram, IsSound, IsWithinBounds, Layout, Record, Refusal, Reply, Running, ScriptTrap, Seen, Sizes, Slice, Status, Ticket, active_amount, all-pass, at_number, at_number-suc, currency-bounded, event-for, event_for, flat_map-append, found-runs, get_or-set_at, is_currency, is_currency-is, is_live, live_value, numbered, option_any, option_flatten, placed, run-in-order, set_number, some-injective, sum-filter, target-of, ticket_in, ticket_in-suc, time_after, winner, world_of}
 pub use Rattle.lot_playback.proofs.DispatchFacts.{value-kept, whole-kept}
 pub use Rattle.lot_playback.proofs.DueFacts.{time-more}
 pub use Rattle.lot_playback.proofs.FollowFacts.{turn-answers}
-pub use Rattle.lot_playback.proofs.MadeFacts.{world-one_more}
 pub use Rattle.lot_playback.proofs.WorthFacts.{value-within}
-pub use Rattle.lot_playback.specs.Owed.{Answers, IsDispatch, time_after}
 pub use Rattle.lot_playback.specs.Stages.{HasJustMade, HasMade, answer_in}
 pub use Rattle.lot_playback.specs.Turns.{MadeTurn, counted_turn, counted_turns, program_turns, scheduled_turn, scheduled_turns, turn_in_time, turns_by, turns_in_time, world_after_turns}
 pub use Rattle.lot_playback.specs.declared.sharers.Sharers.TheVariants.{Currencies, Threads}
+pub use Rattle.lot_system.proofs.Common.{InputFault, IoFault, ThreadRow, decimal, ends_refused, newline, program_in, row_of_thread, thread_name, thread_row, world-one_more}
 pub use Rattle.lot_system.proofs.ListingFacts.{numbers-push}
 pub use Rattle.lot_system.proofs.RefusedFacts.{stopped-at-end}
-pub use Rattle.lot_system.specs.Leaving.{ends_refused}
 pub use Rattle.lot_system.specs.Played.{Plays, came_of}
 pub use Rattle.lot_system.specs.declared.inputs.Played.{Played}
 pub use Rattle.lot_system.specs.declared.inputs.Played.TheVariants.{Done}

@@ -19,3 +19,4 @@ pub mod DueEnds
 pub mod Worth
 pub mod Ran
 pub mod Columns
+pub mod Lemmas

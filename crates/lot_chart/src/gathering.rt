@@ -22,9 +22,9 @@ ghost use Rattle.lot_chart.specs.Noted as noted;
 
 use itoa::Buffer;
 use lot_curves::{By, Curves, Stretch};
-use lot_engine::System;
+use lot_engine::{Settled, System};
 use lot_graph::Above;
-use lot_machine::{Name, Reply};
+use lot_machine::{CurrencyNumber, Name, Reply, ThreadNumber};
 use lot_playback::{Observer, Playback, Turn};
 use lot_program::Program;
 use lot_system::{Warnings, note_last, play_through};
@@ -269,7 +269,7 @@ fn names_at_end(
 {
     let (mut system, order) = playback.into_parts();
     note_last(program, &mut system, &order, warnings);
-    names_of(alloc, by, &mut system)
+    names_of(alloc, by, system.settle())
 }
 
 /// Makes the program's turns, and records the stretches of each, and its warning; and the times of the commands.
@@ -312,47 +312,48 @@ fn note_turns(
 }
 
 /// The columns' names, in ascending order of number: each is that of the last thread or currency with the number.
-fn names_of(alloc: Global, by: By, system: &mut System) -> Result<Vec<Name>, AllocError>
+fn names_of(alloc: Global, by: By, settled: Settled<'_>) -> Result<Vec<Name>, AllocError>
     ensures few { IfOk result (λ names. vec_len names < 2 ^ 32) }
-    ensures names { IfOk result (λ names. names.items ≡ names_by by (world_of system.old).state) }
+    ensures names { IfOk result (λ names. names.items ≡ names_by by settled.entry.kernel.now.state) }
 {
-    let count = column_count(by, system);
+    let count = column_count(by, settled);
     let mut names = Vec::with_capacity(alloc, count as usize)?;
     for place in 0..count {
-        names.push(name_by(by, system, place + 1))?;
+        names.push(name_by(by, settled, place + 1))?;
     }
     Ok(names)
 }
 
 /// How many numbers of threads have been given, or of currencies other than base.
-fn column_count(by: By, system: &System) -> u32
-    ensures { result ≡ length (numbers_by by (world_of system.now).state) }
+fn column_count(by: By, settled: Settled<'_>) -> u32
+    ensures { result ≡ length (numbers_by by settled.entry.kernel.now.state) }
 {
     match by {
-        By::Thread => system.thread_count(),
-        By::Currency => system.currency_count().saturating_sub(1),
+        By::Thread => settled.kernel.thread_count(),
+        By::Currency => settled.kernel.currency_count().saturating_sub(1),
     }
 }
 
 /// The name of the last thread or currency with this number, or the number itself if that was removed or has no name.
-fn name_by(by: By, system: &mut System, number: u32) -> Name
-    requires { IsBetween 1 (length (numbers_by by (world_of system.old).state)) number }
-    ensures same { system.new ≡ system.old }
-    ensures name { result ≡ curves.name_by by (world_of system.old).state number }
+fn name_by(by: By, settled: Settled<'_>, number: u32) -> Name
+    requires { IsBetween 1 (length (numbers_by by settled.kernel.now.state)) number }
+    ensures { result ≡ curves.name_by by settled.entry.kernel.now.state number }
 {
     match by {
-        By::Thread => name_or_number(thread_name(system, number), number),
-        By::Currency => name_or_number(system.currency_name(number), number),
+        By::Thread => name_or_number(thread_name(settled, number), number),
+        By::Currency => name_or_number(
+            settled.kernel.currency_name(CurrencyNumber { number }),
+            number,
+        ),
     }
 }
 
 /// The name of the thread with this number, unless it was removed.
-fn thread_name(system: &mut System, thread: u32) -> Option<Name>
-    requires { IsBetween 1 (length (world_of system.old).state.records) thread }
-    ensures same { system.new ≡ system.old }
-    ensures name { result ≡ rows.thread_name (world_of system.old).state thread }
+fn thread_name(settled: Settled<'_>, thread: u32) -> Option<Name>
+    requires { IsBetween 1 (length settled.kernel.now.state.records) thread }
+    ensures { result ≡ rows.thread_name settled.entry.kernel.now.state thread }
 {
-    match system.thread_row(thread) {
+    match settled.thread_row(ThreadNumber { number: thread }) {
         Some(row) => Some(row.name),
         None => None,
     }

@@ -12,7 +12,8 @@ ghost use Rattle.lot_chart.specs.Gauges.{start_ticks};
 ghost use Rattle.lot_chart.specs.Gauges.{thread_of};
 
 use lot_curves::{By, Curves, start_of};
-use lot_engine::System;
+use lot_engine::{Settled, System};
+use lot_machine::{CurrencyNumber, ThreadNumber};
 use lot_playback::live_value;
 use lot_simulation::TICK_PARTS;
 use std::alloc::{AllocError, Global};
@@ -42,48 +43,45 @@ impl Growth {
         }
     }
 
-    /// The growth after a turn that led to this system.
-    fn renewed(self, by: By, system: &mut System) -> Growth
-        requires sound { IsSound (world_of system.old).state }
+    /// The growth after a turn that led to this kernel.
+    fn renewed(self, by: By, settled: Settled<'_>) -> Growth
+        requires sound { IsSound settled.kernel.now.state }
         requires column { IsColumn by (thread_of self) }
-        ensures same { system.new ≡ system.old }
         ensures thread { thread_of result ≡ thread_of self }
-        ensures now { IsNow by (world_of system.old).state result }
+        ensures now { IsNow by settled.entry.kernel.now.state result }
     {
         match self {
             Growth::Live => Growth::Live,
             Growth::Due { thread, .. } => Growth::Due {
                 thread,
-                value: own_value(by, thread, system),
+                value: own_value(by, thread, settled),
             },
         }
     }
 }
 
 /// The value that a thread or currency has of what is shared out.
-fn own_value(by: By, number: u32, system: &mut System) -> u64
-    requires sound { IsSound (world_of system.old).state }
+fn own_value(by: By, number: u32, settled: Settled<'_>) -> u64
+    requires sound { IsSound settled.kernel.now.state }
     requires column { IsColumn by (Some number) }
-    ensures same { system.new ≡ system.old }
-    ensures value { result ≡ dues.own_value by (world_of system.old).state number }
+    ensures { result ≡ dues.own_value by settled.entry.kernel.now.state number }
 {
     match by {
-        By::Thread => system.live_value(number),
-        By::Currency => currency_value(number, system),
+        By::Thread => settled.live_value(ThreadNumber { number }),
+        By::Currency => currency_value(CurrencyNumber { number }, settled),
     }
 }
 
 /// The value of a currency, or 0 if it doesn't exist yet.
-fn currency_value(currency: u32, system: &mut System) -> u64
-    requires sound { IsSound (world_of system.old).state }
-    requires user { 0 < currency }
-    ensures same { system.new ≡ system.old }
-    ensures value { result ≡ worth_of (world_of system.old).state currency }
+fn currency_value(currency: CurrencyNumber, settled: Settled<'_>) -> u64
+    requires sound { IsSound settled.kernel.now.state }
+    requires user { 0 < currency.number }
+    ensures { result ≡ worth_of settled.entry.kernel.now.state currency.number }
 {
-    if currency >= system.currency_count() {
+    if currency.number >= settled.kernel.currency_count() {
         return 0;
     }
-    system.currency_value(currency)
+    settled.currency_value(currency)
 }
 
 /// The value that is shared out: that of all live threads, or of all active tickets of base.
@@ -248,14 +246,13 @@ impl Gauge {
         Ok(())
     }
 
-    /// Takes over its thread's or currency's value in this system.
-    fn renew(&mut self, by: By, system: &mut System)
-        requires sound { IsSound (world_of system.old).state }
+    /// Takes over its thread's or currency's value in this kernel.
+    fn renew(&mut self, by: By, settled: Settled<'_>)
+        requires sound { IsSound settled.kernel.now.state }
         requires column { IsColumn by (thread_of self.old.growth) }
-        ensures same { system.new ≡ system.old }
-        ensures renewed { IsRenewed by (world_of system.old).state self.old self.new }
+        ensures { IsRenewed by settled.entry.kernel.now.state self.old self.new }
     {
-        self.growth = self.growth.renewed(by, system);
+        self.growth = self.growth.renewed(by, settled);
     }
 
     /// By how much the sum grew in the window of this sample.
@@ -302,15 +299,14 @@ pub(crate) fn pass_all(
     Ok(())
 }
 
-/// Takes over the values of all threads or currencies with gauges in this system.
-pub(crate) fn renew_all(gauges: &mut [Gauge], by: By, system: &mut System)
-    requires sound { IsSound (world_of system.old).state }
+/// Takes over the values of all threads or currencies with gauges in this kernel.
+pub(crate) fn renew_all(gauges: &mut [Gauge], by: By, settled: Settled<'_>)
+    requires sound { IsSound settled.kernel.now.state }
     requires columns { EachGauge (λ gauge. IsColumn by (thread_of gauge.growth)) gauges.old }
-    ensures same { system.new ≡ system.old }
-    ensures renewed { AreRenewed by (world_of system.old).state gauges.old gauges.new }
+    ensures { AreRenewed by settled.entry.kernel.now.state gauges.old gauges.new }
 {
     for place in 0..gauges.len() {
         let gauge = &mut gauges[place];
-        gauge.renew(by, system);
+        gauge.renew(by, settled);
     }
 }

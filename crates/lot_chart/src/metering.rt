@@ -115,7 +115,7 @@ impl Meter {
         ensures renewed { HasRenewed (world_of system.old).state self.old self.new }
     {
         self.whole_value = whole_value(self.by, system);
-        renew_all(self.threads.as_mut_slice(), self.by, system);
+        renew_all(self.threads.as_mut_slice(), self.by, system.settle());
     }
 }
 

@@ -1,17 +1,5 @@
 -- With other seeds an input is refused or played as with its own.
-use Rattle.std.proofs.Common.{◌≡◌, ℕ, Option, Result, Ok, Err, List, refl, sym, subst}
-use Rattle.lot_io.specs.declared.fault.IoFault.{IoFault}
-use Rattle.lot_io.specs.Watching.{Watch}
-use Rattle.lot_simulation.specs.declared.input.InputFault.{InputFault}
-use Rattle.lot_simulation.specs.Grammar.{program_in}
-use Rattle.lot_simulation.specs.Seeded.{seeded}
-use Rattle.lot_simulation.specs.Texts.{fault_line}
-use Rattle.lot_simulation.specs.World.{Program}
-use Rattle.lot_system.specs.declared.inputs.Played.{Played}
-use Rattle.lot_system.specs.declared.inputs.Played.TheVariants.{Refused}
-use Rattle.lot_system.specs.Played.{Plays, came_of}
-use Rattle.lot_command.specs.declared.command_line.request.View.{View}
-use Rattle.lot_command.specs.Views.{shown_of, text_of}
+use Rattle.lot_command.proofs.Common.{Err, InputFault, IoFault, List, Ok, Option, Played, Plays, Program, Refused, Result, View, Watch, came_of, fault_line, program_in, refl, seeded, shown_of, subst, sym, text_of, ℕ, ◌≡◌}
 
 pub came_seeded : (seed : Option ℕ) (input : Result Program InputFault) → came_of (seeded seed input) ≡ came_of input
 came_seeded seed (Ok program) = refl

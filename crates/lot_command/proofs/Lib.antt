@@ -1,2 +1,4 @@
+pub mod Common
 pub mod GivenSeeds
 pub mod Statuses
+pub mod Lemmas

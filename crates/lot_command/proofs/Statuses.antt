@@ -1,29 +1,9 @@
 -- The statuses that inputs call for, and what comes of them.
-use Rattle.std.proofs.Common.{◌≡◌, ℕ, Bool, true, false, ◌||◌, Option, Some, None, Result, Ok, Err, List, [], ◌∷◌, refl, sym, ◌∙◌, ap, subst, inl, inr}
-use Rattle.std.specs.Prelude.{◌&&◌, IfOk, IfSome, OnOk, is_some}
-use Rattle.std.specs.Result.{result_ok}
-use Rattle.lot_io.specs.declared.fault.IoFault.{IoFault}
-use Rattle.lot_io.specs.Reading.{HasRead}
-use Rattle.lot_io.specs.Watching.{Watch}
-use Rattle.lot_simulation.specs.declared.input.InputFault.{InputFault}
-use Rattle.lot_simulation.specs.Grammar.{program_in}
-use Rattle.lot_simulation.specs.Seeded.{seeded, with_seed}
-use Rattle.lot_simulation.specs.Timed.{last_moment}
-use Rattle.lot_simulation.specs.World.{Program}
-use Rattle.lot_system.specs.declared.inputs.Played.{Played}
+use Rattle.lot_command.proofs.Common.{Bool, Err, ExitStatus, HasCome, HasRead, IfOk, IfSome, InputFault, IoFault, IsStatusFor, List, None, Ok, OnOk, Option, Played, Plays, Program, Request, Result, Showing, Some, View, Watch, any_ends_refused, ap, came_of, ends_refused, ends_refused_in, false, inl, input_ends_refused, inr, is_some, last_moment, program_in, refl, result_ok, seeded, seeds_between, status_of, status_of_input, subst, sym, true, view_ends_refused, with_seed, ℕ, [], ◌&&◌, ◌||◌, ◌∙◌, ◌∷◌, ◌≡◌}
 use Rattle.lot_system.specs.declared.inputs.Played.TheVariants as played
-use Rattle.lot_system.specs.Leaving.{any_ends_refused, ends_refused}
-use Rattle.lot_system.specs.Played.{Plays, came_of}
-use Rattle.lot_system.specs.Seeds.{seeds_between}
-use Rattle.lot_command.specs.declared.command_line.request.Request.{Request}
 use Rattle.lot_command.specs.declared.command_line.request.Request.TheVariants as requests
-use Rattle.lot_command.specs.declared.exit_status.ExitStatus.{ExitStatus}
 use Rattle.lot_command.specs.declared.exit_status.ExitStatus.TheVariants as status
-use Rattle.lot_command.specs.declared.command_line.request.Showing.{Showing}
-use Rattle.lot_command.specs.declared.command_line.request.View.{View}
 use Rattle.lot_command.specs.declared.command_line.request.View.TheVariants as views
-use Rattle.lot_command.specs.Statuses.{HasCome, IsStatusFor, status_of, status_of_input}
-use Rattle.lot_command.specs.Views.{ends_refused_in, input_ends_refused, view_ends_refused}
 
 -- ---- a request
 

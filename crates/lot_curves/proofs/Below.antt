@@ -1,28 +1,7 @@
 -- The stretches of turns by currency.
-use Rattle.std.proofs.Common.{◌≡◌, ℕ, zero, suc, ◌+◌, ◌<◌, ◌≤◌, ◌==◌, Bool, true, false, cond, Option, Some, None, List, [], ◌∷◌, ◌++◌, filter, length, map, sum_by, refl, sym, ap, ◌∙◌, arith}
-use Rattle.std.specs.Prelude.{drop}
-use Rattle.std.specs.List.{range_with_len}
-use Rattle.std.proofs.lemmas.Bool.{eq-eqb, eqb-true, ne_eqb}
-use Rattle.std.proofs.lemmas.List.{length-drop}
-use Rattle.std.proofs.lemmas.List.Elements.{filter-append}
-use Rattle.std.proofs.lemmas.List.Sums.{sum_by-cons}
+use Rattle.lot_curves.proofs.Common.{Answered, Bool, Draws, Ended, EndedTurn, List, Measure, None, Option, Program, Some, State, Stretch, Ticks, TimedTurn, TurnAnswer, ap, arith, cond, count_in, currencies_above, currency_numbers, currency_stretches_from, drop, ended_in_time, eq-eqb, eqb-true, false, filter, filter-append, had_in, in_column, length, length-drop, map, ne_eqb, opening, part_in, ran_below, range_with_len, refl, stretch_of, stretches_of, suc, sum-filter, sum-one, sum-same, sum_by, sum_by-cons, sym, ticks_below, ticks_in, timed_curves_by, timed_turns, total_at, true, turn_stretches, windowed, zero, ℕ, [], ◌++◌, ◌+◌, ◌<◌, ◌==◌, ◌∙◌, ◌∷◌, ◌≡◌, ◌≤◌}
 use Rattle.lot_machine.specs.declared.reply.Reply.TheVariants as reply
-use Rattle.lot_machine.specs.State.{State, opening}
-use Rattle.lot_machine.proofs.Sums.{sum-filter, sum-one, sum-same}
-use Rattle.lot_simulation.specs.Report.{count_in, ticks_in}
-use Rattle.lot_simulation.specs.Timed.{TimedTurn, timed_turns}
-use Rattle.lot_simulation.specs.TimedReport.{ticks_below}
-use Rattle.lot_simulation.specs.Below.{currency_numbers}
-use Rattle.lot_simulation.specs.World.{TurnAnswer, Program}
-use Rattle.lot_simulation.specs.World.TurnAnswer.{Answered, Ended}
 use Rattle.lot_curves.specs.declared.by.By.TheVariants as by
-use Rattle.lot_curves.specs.declared.stretch.Measure.{Measure}
-use Rattle.lot_curves.specs.declared.stretch.Measure.TheVariants.{Draws, Ticks}
-use Rattle.lot_curves.specs.declared.stretch.Stretch.{Stretch}
-use Rattle.lot_curves.specs.Curves.{currency_stretches_from, ended_in_time, timed_curves_by, total_at, windowed}
-use Rattle.lot_curves.specs.OwnTimes.{EndedTurn}
-use Rattle.lot_curves.specs.Stretches.{currencies_above, in_column, ran_below, stretch_of, stretches_of, turn_stretches}
-use Rattle.lot_curves.specs.Windows.{had_in, part_in}
 
 -- the ticks of one column, of a stretch that is repeated in these
 in-columns : (c : ℕ) (x : Stretch) (ds : List ℕ) → sum_by (λ (s : Stretch). s.ticks) (stretches_of c (map (λ d. in_column d x) ds)) ≡ sum_by (λ d. cond (d == c) x.ticks 0) ds

@@ -1,23 +1,6 @@
 -- No two threads' columns have the same name.
-use Rattle.std.proofs.Common.{◌≡◌, ℕ, ◌+◌, ◌^◌, ◌<◌, ◌≤◌, ◌==◌, Bool, true, false, cond, Option, Some, None, List, [], ◌∷◌, ◌++◌, unwrap_or, refl, sym, ◌∙◌, ap, arith}
-use Rattle.std.specs.Prelude.{◌&&◌, ◌||◌, ◌%◌, nat_le}
-use Rattle.std.specs.Fmt.{decimal}
-use Rattle.std.specs.List.{list_all}
-use Rattle.std.proofs.lemmas.Bool.{leb-true}
-use Rattle.std.proofs.lemmas.Fmt.{decimal_by_steps, decimal_injective}
-use Rattle.lot_machine.specs.declared.command.Command.{Command}
-use Rattle.lot_machine.specs.declared.event.Event.{Event}
+use Rattle.lot_curves.proofs.Common.{AreOwn, Bool, Command, Event, List, None, Option, Program, Sizes, Some, State, Thread, TurnMade, World, actor_event, ap, arith, cond, console_turn, decimal, decimal_by_steps, decimal_injective, false, is_good_name, is_letter, is_name_byte, is_no_name, is_plain_name, is_thread_name, leb-true, list_all, name_in, nat_le, next_name, opening-own, opening_world, processor_turn, refl, resolved, step, step-limits, step-own, sym, system_after, system_run, system_turn, thread_name, true, unwrap_or, ℕ, [], ◌%◌, ◌&&◌, ◌++◌, ◌+◌, ◌<◌, ◌==◌, ◌^◌, ◌||◌, ◌∙◌, ◌∷◌, ◌≡◌, ◌≤◌}
 use Rattle.lot_machine.specs.declared.event.Event.TheVariants as event
-use Rattle.lot_machine.specs.declared.sizes.Sizes.{Sizes}
-use Rattle.lot_machine.specs.declared.ticket.Target.TheVariants.{Thread}
-use Rattle.lot_machine.specs.Commands.{is_good_name, is_plain_name, is_letter, is_name_byte, is_no_name, is_thread_name}
-use Rattle.lot_machine.specs.Rows.{thread_name}
-use Rattle.lot_machine.specs.State.{State}
-use Rattle.lot_machine.specs.Step.{step}
-use Rattle.lot_machine.proofs.NamesKept.{AreOwn, opening-own, step-own}
-use Rattle.lot_machine.proofs.StepSizes.{step-limits}
-use Rattle.lot_simulation.specs.World.{Program, TurnMade, World, console_turn, next_name, opening_world, actor_event, processor_turn, resolved, system_after, system_run, system_turn}
-use Rattle.lot_curves.specs.Curves.{name_in}
 
 -- ---- names in a run
 

@@ -1,13 +1,5 @@
 -- Stretches that are cut to an interval.
-use Rattle.std.proofs.Common.{◌≡◌, ℕ, ◌+◌, ◌-◌, ◌<◌, ◌≤◌, ◌==◌, Bool, true, false, cond, max, min, List, [], ◌∷◌, ◌++◌, drop, get_or, length, map, set, take, refl, sym, ap, ◌∙◌, arith, append_assoc}
-use Rattle.std.specs.Prelude.{fold}
-use Rattle.std.proofs.lemmas.List.{drop_more, get_or_at, length-map, length-take-le, map-append, set_at, take_more}
-use Rattle.std.proofs.lemmas.List.Sums.{sum_by-cons}
-use Rattle.lot_curves.specs.declared.stretch.Measure.TheVariants.{Ticks}
-use Rattle.lot_curves.specs.declared.stretch.Stretch.{Stretch}
-use Rattle.lot_curves.specs.Curves.{Curves, share_at}
-use Rattle.lot_curves.specs.Intervals.{curves_between}
-use Rattle.lot_curves.specs.Stretches.{had_at, last_end, part_at, stretch_between, stretches_of}
+use Rattle.lot_curves.proofs.Common.{Bool, Curves, List, Stretch, Ticks, ap, append_assoc, arith, cond, curves_between, drop, drop_more, false, fold, get_or, get_or_at, had_at, last_end, length, length-map, length-take-le, map, map-append, max, min, part_at, refl, set, set_at, share_at, stretch_between, stretches_of, sum_by-cons, sym, take, take_more, true, ℕ, [], ◌++◌, ◌+◌, ◌-◌, ◌<◌, ◌==◌, ◌∙◌, ◌∷◌, ◌≡◌, ◌≤◌}
 
 -- ---- one element after another
 

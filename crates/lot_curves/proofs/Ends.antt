@@ -1,14 +1,5 @@
 -- What curves come to.
-use Rattle.std.proofs.Common.{◌≡◌, ℕ, ◌+◌, ◌≤◌, ◌==◌, Bool, true, false, cond, nat_le, max, List, [], ◌∷◌, ◌++◌, length, sum_by, refl, ap, arith}
-use Rattle.std.specs.Prelude.{⊤, fold}
-use Rattle.std.proofs.lemmas.Bool.{le-leb, leb-true}
-use Rattle.std.proofs.lemmas.List.FromFn.{length-map-range_with_len}
-use Rattle.std.proofs.lemmas.List.Sums.{fold_push, sum_by-cons, sum_by-le-sum_by}
-use Rattle.lot_curves.specs.declared.stretch.Measure.{Measure}
-use Rattle.lot_curves.specs.declared.stretch.Measure.TheVariants.{Draws, Ticks}
-use Rattle.lot_curves.specs.declared.stretch.Stretch.{Stretch}
-use Rattle.lot_curves.specs.Curves.{Curves, sample_count, sample_tick, sample_ticks, share_at}
-use Rattle.lot_curves.specs.Stretches.{had_at, last_end, part_at, stretches_of}
+use Rattle.lot_curves.proofs.Common.{Bool, Curves, Draws, List, Measure, Stretch, Ticks, ap, arith, cond, false, fold, fold_push, had_at, last_end, le-leb, leb-true, length, length-map-range_with_len, max, nat_le, part_at, refl, sample_count, sample_tick, sample_ticks, share_at, stretches_of, sum_by, sum_by-cons, sum_by-le-sum_by, true, ℕ, [], ⊤, ◌++◌, ◌+◌, ◌==◌, ◌∷◌, ◌≡◌, ◌≤◌}
 
 -- ---- samples
 

@@ -1,15 +1,5 @@
 -- What threads have had, one stretch after another.
-use Rattle.std.proofs.Common.{◌≡◌, ℕ, ◌+◌, ◌<◌, ◌==◌, Option, List, length, map, get_or, take, cond, sym, ap, ◌∙◌, arith}
-use Rattle.std.specs.List.{range_with_len}
-use Rattle.std.proofs.lemmas.List.{ext_get_or}
-use Rattle.std.proofs.lemmas.List.FromFn.{get_or-map-range_with_len, length-map-range_with_len}
-use Rattle.std.proofs.lemmas.List.Sums.{sum_by_more}
-use Rattle.lot_machine.proofs.Sums.{sum-filter}
-use Rattle.lot_curves.specs.declared.stretch.Measure.{Measure}
-use Rattle.lot_curves.specs.declared.stretch.Stretch.{Stretch}
-use Rattle.lot_curves.specs.Curves.{Curves, row_at, shown_at}
-use Rattle.lot_curves.specs.Stretches.{stretches_of}
-use Rattle.lot_curves.specs.Windows.{had_in, part_in}
+use Rattle.lot_curves.proofs.Common.{Curves, List, Measure, Option, Stretch, ap, arith, cond, ext_get_or, get_or, get_or-map-range_with_len, had_in, length, length-map-range_with_len, map, part_in, range_with_len, row_at, shown_at, stretches_of, sum-filter, sum_by_more, sym, take, ℕ, ◌+◌, ◌<◌, ◌==◌, ◌∙◌, ◌≡◌}
 
 -- what a thread has had of one stretch more
 pub had-more : (measure : Measure) (window : Option ℕ) (tick t : ℕ) (xs : List Stretch) (i : ℕ) (d : Stretch) → i < length xs

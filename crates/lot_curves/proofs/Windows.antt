@@ -1,11 +1,5 @@
 -- Stretches in a window.
-use Rattle.std.proofs.Common.{◌≡◌, ℕ, ◌+◌, ◌-◌, ◌≤◌, cond, Some, List, [], ◌∷◌, refl, ap, arith}
-use Rattle.std.proofs.lemmas.Bool.{le-leb}
-use Rattle.std.proofs.lemmas.List.Sums.{sum_by-cons}
-use Rattle.lot_curves.specs.declared.stretch.Measure.TheVariants.{Draws, Ticks}
-use Rattle.lot_curves.specs.declared.stretch.Stretch.{Stretch}
-use Rattle.lot_curves.specs.Stretches.{had_at, part_at}
-use Rattle.lot_curves.specs.Windows.{had_in, part_in}
+use Rattle.lot_curves.proofs.Common.{Draws, List, Some, Stretch, Ticks, ap, arith, cond, had_at, had_in, le-leb, part_at, part_in, refl, sum_by-cons, ℕ, [], ◌+◌, ◌-◌, ◌∷◌, ◌≡◌, ◌≤◌}
 
 module _ (window tick : ℕ) where
   ticks-part : (s : Stretch) → part_at Ticks (tick - window) s + part_in Ticks (Some window) tick s ≡ part_at Ticks tick s

@@ -1,17 +1,5 @@
 -- Who weighs nothing can be left out of a lottery.
-use Rattle.std.proofs.Common.{◌≡◌, ℕ, suc, ◌+◌, ◌%◌, ◌<◌, ◌≤◌, ◌==◌, nat_lt, Bool, true, false, cond, Option, Some, None, IfSome, IsSome, is_some, Contains, List, [], ◌∷◌, length, map, filter, sum, get_or, add_comm, ap, sym, ◌∙◌, refl, arith}
-use Rattle.std.proofs.lemmas.Bool.{ltb-true, ltb-false, eqb-true, eqb-false}
-use Rattle.std.proofs.lemmas.List.FromFn.{get_or-range_with_len}
-use Rattle.std.proofs.lemmas.List.Sums.{sum_by-cons}
-use Rattle.std.proofs.Math.Nat.{mod-lt}
-use Rattle.std.proofs.lemmas.List.{length-map}
-use Rattle.std.proofs.lemmas.Option.{slice_get-get_or}
-use Rattle.lot_machine.specs.Numbered.{numbers}
-use Rattle.lot_machine.proofs.EachOnce.{contains-at, contains-filter}
-use Rattle.lot_machine.specs.Lottery.{first_above, running_sums, winner}
-use Rattle.lot_draw.specs.declared.competing.Competitor.{Competitor}
-use Rattle.lot_draw.specs.declared.competing.Winner.{Winner}
-use Rattle.lot_draw.specs.Competing.{competitor_at, competing_threads, weight_among, winner_among, drawn_among}
+use Rattle.lot_draw.proofs.Common.{Bool, Competitor, Contains, IfSome, IsSome, List, None, Option, Some, Winner, add_comm, ap, arith, competing_threads, competitor_at, cond, contains-at, contains-filter, drawn_among, eqb-false, eqb-true, false, filter, first_above, get_or, get_or-range_with_len, is_some, length, length-map, ltb-false, ltb-true, map, mod-lt, nat_lt, numbers, refl, running_sums, slice_get-get_or, suc, sum, sum_by-cons, sym, true, weight_among, winner, winner_among, ℕ, [], ◌%◌, ◌+◌, ◌<◌, ◌==◌, ◌∙◌, ◌∷◌, ◌≡◌, ◌≤◌}
 
 module _ (competes : ℕ → Bool) (weight : ℕ → ℕ) (idle : (t : ℕ) → competes t ≡ false → weight t ≡ 0) where
   -- the total is the same

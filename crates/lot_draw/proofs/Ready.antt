@@ -1,14 +1,5 @@
 -- Those that compete are the Ready threads.
-use Rattle.std.proofs.Common.{◌≡◌, ℕ, zero, suc, ◌+◌, ◌-◌, ◌≤◌, Bool, true, false, cond, is_some, Option, Some, None, List, [], ◌∷◌, length, map, filter, option_map, option_and_then, ap, ◌∙◌, refl, arith}
-use Rattle.std.specs.List.{range_with_len}
-use Rattle.std.proofs.lemmas.Option.{slice_get_past}
-use Rattle.lot_machine.specs.declared.record.Record.{Record}
-use Rattle.lot_machine.specs.Numbered.{at_number, numbers, option_any}
-use Rattle.lot_machine.specs.Lottery.{weight, winner}
-use Rattle.lot_machine.specs.State.{is_ready, status_of, ready_threads}
-use Rattle.lot_machine.proofs.Tickets.{at_number-suc}
-use Rattle.lot_draw.specs.declared.competing.Competitor.{Competitor}
-use Rattle.lot_draw.specs.Competing.{competitor_at, competitor_of, competing_threads, weight_with, weight_among, winner_among, drawn_among, AreReady}
+use Rattle.lot_draw.proofs.Common.{AreReady, Bool, Competitor, List, None, Option, Record, Some, ap, arith, at_number, at_number-suc, competing_threads, competitor_at, competitor_of, cond, drawn_among, false, filter, is_ready, is_some, length, map, numbers, option_and_then, option_any, option_map, range_with_len, ready_threads, refl, slice_get_past, status_of, suc, true, weight, weight_among, weight_with, winner, winner_among, zero, ℕ, [], ◌+◌, ◌-◌, ◌∙◌, ◌∷◌, ◌≡◌, ◌≤◌}
 
 -- ---- lists
 

@@ -1,19 +1,5 @@
 -- Who competes is there, after a change.
-use Rattle.std.proofs.Common.{◌≡◌, ℕ, zero, suc, ◌-◌, ◌<◌, ◌≤◌, ◌⊎◌, inl, inr, Option, Some, None, List, length, slice_get, ap, sym, ◌∙◌, refl, subst, arith, length-set, replicate}
-use Rattle.std.specs.Option.{option_flatten}
-use Rattle.std.proofs.lemmas.Bool.{cases_lt}
-use Rattle.std.proofs.lemmas.List.{length-replicate, get_or-replicate}
-use Rattle.std.proofs.lemmas.Option.{slice_get_read, slice_get_past}
-use Rattle.lot_machine.specs.declared.funding.Node.{Node}
-use Rattle.lot_machine.specs.Numbered.{at_number, set_number}
-use Rattle.lot_machine.proofs.Changes.{number-set}
-use Rattle.lot_machine.proofs.Tickets.{at_number-suc}
-use Rattle.lot_graph.specs.Graphs.{IsThread}
-use Rattle.lot_value.specs.Caches.{Known, IsStale}
-use Rattle.lot_value.specs.Valued.{Valued}
-use Rattle.lot_draw.specs.declared.competing.Competitor.{Competitor}
-use Rattle.lot_draw.specs.Competing.{competitor_at}
-use Rattle.lot_draw.specs.Queued.{Queued, AreWeights, CompetesIn}
+use Rattle.lot_draw.proofs.Common.{AreWeights, CompetesIn, Competitor, IsStale, IsThread, Known, List, Node, None, Option, Queued, Some, Valued, ap, arith, at_number, at_number-suc, cases_lt, competitor_at, get_or-replicate, inl, inr, length, length-replicate, length-set, number-set, option_flatten, refl, replicate, set_number, slice_get, slice_get_past, slice_get_read, subst, suc, sym, zero, ℕ, ◌-◌, ◌<◌, ◌∙◌, ◌≡◌, ◌≤◌, ◌⊎◌}
 use Rattle.lot_draw.proofs.Weighing.{weights-stale}
 
 abbrev nobody : Option Competitor

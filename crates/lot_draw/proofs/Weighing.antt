@@ -1,28 +1,5 @@
 -- What threads weigh, and how weights stay right.
-use Rattle.std.proofs.Common.{◌≡◌, ℕ, zero, suc, ◌+◌, ◌-◌, ◌^◌, ◌<◌, ◌≤◌, ◌⊎◌, inl, inr, ◌↔◌, Bool, false, is_some, Option, Some, None, List, [], ◌∷◌, ◌++◌, All, Contains, length, map, sum, set, get_or, replicate, add-one, slice_get, ap, sym, ◌∙◌, refl, subst, arith, length-set, IfSome}
-use Rattle.std.specs.Option.{option_flatten}
-use Rattle.std.specs.List.{remove, range_with_len}
-use Rattle.std.proofs.lemmas.Bool.{cases_eq}
-use Rattle.std.proofs.lemmas.Grind.{get_or-set_at}
-use Rattle.std.proofs.lemmas.List.{get_or-set_other, length-replicate, get_or-replicate}
-use Rattle.std.proofs.lemmas.List.Sums.{sum_by-le}
-use Rattle.std.proofs.lemmas.Option.{slice_get_read}
-use Rattle.std.proofs.lemmas.List.Elements.{Contains-push_cases, Contains-append_left, Contains-append_right}
-use Rattle.lot_machine.specs.declared.funding.Node.{Node}
-use Rattle.lot_machine.specs.declared.funding.Node.TheVariants.{Currency, Thread, Mutex}
-use Rattle.lot_machine.specs.Numbered.{at_number, set_number, numbers}
-use Rattle.lot_machine.specs.Lottery.{winner}
-use Rattle.lot_machine.specs.Value.{thread_value}
-use Rattle.lot_machine.proofs.Changes.{number-set}
-use Rattle.lot_machine.proofs.Tickets.{at_number-suc}
-use Rattle.lot_machine.proofs.EachOnce.{contains-nothing, still-left}
-use Rattle.lot_graph.specs.Graphs.{LimitedFunding, IsThread}
-use Rattle.lot_graph.specs.Places.{node_place, IsNodeWithin}
-use Rattle.lot_value.specs.Caches.{Known, IsStale, Settles, value_in}
-use Rattle.lot_value.specs.Valued.{Valued}
-use Rattle.lot_draw.specs.declared.competing.Competitor.{Competitor}
-use Rattle.lot_draw.specs.Competing.{competitor_at, weight_with, weight_among, winner_among, drawn_among}
-use Rattle.lot_draw.specs.Queued.{Queued, AreWeights, CompetesIn, IsSettled}
+use Rattle.lot_draw.proofs.Common.{All, AreWeights, Bool, CompetesIn, Competitor, Contains, Contains-append_left, Contains-append_right, Contains-push_cases, Currency, IfSome, IsNodeWithin, IsSettled, IsStale, IsThread, Known, LimitedFunding, List, Mutex, Node, None, Option, Queued, Settles, Some, Thread, Valued, add-one, ap, arith, at_number, at_number-suc, cases_eq, competitor_at, contains-nothing, drawn_among, false, get_or, get_or-replicate, get_or-set_at, get_or-set_other, inl, inr, is_some, length, length-replicate, length-set, map, node_place, number-set, numbers, option_flatten, range_with_len, refl, remove, replicate, set, set_number, slice_get, slice_get_read, still-left, subst, suc, sum, sum_by-le, sym, thread_value, value_in, weight_among, weight_with, winner, winner_among, zero, ℕ, [], ◌++◌, ◌+◌, ◌-◌, ◌<◌, ◌^◌, ◌↔◌, ◌∙◌, ◌∷◌, ◌≡◌, ◌≤◌, ◌⊎◌}
 use Rattle.lot_draw.proofs.Lotteries.{same-winner}
 
 -- ---- sums

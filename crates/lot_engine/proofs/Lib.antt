@@ -18,3 +18,4 @@ pub mod WakeFacts
 pub mod OneMore
 pub mod Below
 pub mod Layouts
+pub mod Lemmas

@@ -7,3 +7,4 @@ pub mod Counted
 pub mod Playing
 pub mod Fitting
 pub mod Searching
+pub mod Lending

@@ -20,6 +20,7 @@ mod turn;
 pub use counts::Counts;
 pub use fault::TurnFault;
 pub use lot_kept::Stack;
+pub use lot_kernel::Settled;
 pub use slices::{slice_for, slice_in};
 pub use system::System;
 pub use turn::{Answer, Work};

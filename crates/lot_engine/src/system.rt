@@ -2,6 +2,7 @@
 ghost use Rattle.std.specs.Prelude.{◌≡◌, ◌↔◌, ◌<◌, ◌≤◌, ◌+◌, ◌*◌, ◌^◌, [], ◌∷◌, ◌++◌, All, IfOk, IfErr};
 ghost use Rattle.std.specs.Prelude.{IsFalse, IsTrue, Some, None, false, true, length, option_and_then};
 ghost use Rattle.std.specs.Prelude.{if◌then◌else◌};
+ghost use Rattle.std.specs.Borrow.{sem};
 ghost use Rattle.lot_machine.specs.Bounds.{IsBetween};
 ghost use Rattle.lot_machine.specs.Commands as commands;
 ghost use Rattle.lot_machine.specs.Facts.{base_value};
@@ -18,8 +19,9 @@ ghost use Rattle.lot_simulation.specs.Report.{ticks_in, total_of, turns_made, tu
 ghost use Rattle.lot_engine.specs.Counted.{counted};
 ghost use Rattle.lot_engine.specs.Histories.{woken_in};
 ghost use Rattle.lot_engine.specs.Playing.{IsPlayed, turn_in};
+ghost use Rattle.lot_engine.specs.Lending.{EndsSame};
 ghost use Rattle.lot_engine.specs.Searching.{HasLayoutFor, HasThoseAbove};
-ghost use Rattle.lot_engine.specs.Seen.{HasRow, after_turn, commands_made, given_count, shown_history};
+ghost use Rattle.lot_engine.specs.Seen.{HasRow, after_turn, commands_made, shown_history};
 ghost use Rattle.lot_engine.specs.Seen.{timer_for, world_of};
 ghost use Rattle.lot_script.specs.Places.{Place as PlaceRecord};
 ghost use Rattle.lot_engine.specs.Turns.{Answers, Faults, Goes, IfStale, IsEnded, IsFresh, IsWorkOf, Prevents, work_at};
@@ -38,10 +40,10 @@ use crate::turn::{
 };
 use lot_draw::ParkMiller;
 use lot_kept::{Kept, Stack};
-use lot_kernel::{Above, Kernel};
+use lot_kernel::{Above, Kernel, Settled};
 use lot_machine::{
-    CurrencyNumber, CurrencyRow, Event, Kind, Limits, MutexNumber, Name, Processor, Reply, Status,
-    ThreadNumber, ThreadRef, ThreadRow, TicketNumber, TicketRow, index_of,
+    CurrencyNumber, Event, Limits, MutexNumber, Name, Processor, Reply, Status, ThreadNumber,
+    ThreadRef, ThreadRow, index_of,
 };
 use lot_program::Program;
 use lot_script::{Place, Slice};
@@ -456,21 +458,12 @@ impl System {
         self.kernel.limits()
     }
 
-    /// The kernel's row of the ticket with this number, if it exists.
-    pub fn ticket_row(&mut self, ticket: u32) -> Option<TicketRow>
-        ensures row { result ≡ rows.ticket_row (world_of self.old).state ticket }
-        ensures state { self.new ≡ self.old }
+    /// The kernel with all values brought up to date, to read its rows. No contract of the system sees that.
+    pub fn settle(&mut self) -> Settled<'_>
+        ensures state { result.kernel.now.state ≡ (world_of self.old).state }
+        ensures* ends { sem 𝓛 (EndsSame self.entry) }
     {
-        self.kernel.ticket_row(TicketNumber { number: ticket })
-    }
-
-    /// The kernel's row of the currency with this number, if it exists.
-    pub fn currency_row(&mut self, currency: u32) -> Option<CurrencyRow>
-        ensures row { result ≡ rows.currency_row (world_of self.old).state currency }
-        ensures state { self.new ≡ self.old }
-    {
-        self.kernel
-            .currency_row(CurrencyNumber { number: currency })
+        self.kernel.settle()
     }
 
     /// How many numbers of currencies have been given, those of removed ones included. They begin at 0, which is base.
@@ -606,17 +599,6 @@ impl System {
         ensures some { 0 < result }
     {
         self.program.limits().unit
-    }
-
-    /// How many numbers of tickets, currencies or threads have been given.
-    pub fn given_count(&self, kind: Kind) -> u32
-        ensures { result ≡ given_count (world_of self.now).state kind }
-    {
-        match kind {
-            Kind::Tickets => self.kernel.ticket_count(),
-            Kind::Currencies => self.kernel.currency_count(),
-            Kind::Threads => self.thread_count(),
-        }
     }
 
     /// The number of commands made.

@@ -15,3 +15,4 @@ pub mod ShortTexts
 pub mod Reasons
 pub mod Lenders
 pub mod FundingFacts
+pub mod Lemmas

@@ -9,9 +9,9 @@ ghost use Rattle.lot_explain.specs.Lots.{won_in as won_in_spec};
 
 use crate::detail::Detail;
 use crate::won::won_in;
-use lot_engine::System;
+use lot_engine::{Settled, System};
 use lot_io::{IoFault, Watched};
-use lot_machine::{Event, Kind, Reply};
+use lot_machine::{CurrencyNumber, Event, Reply, TicketNumber};
 use lot_print::{Heading, Lottery, Page, write_currency_funds, write_ticket_funds};
 use lot_simulation::LineStyle;
 use std::io::Write;
@@ -38,14 +38,14 @@ pub(crate) fn put_funding<W: Write>(
         Detail::Lots => Ok(()),
         Detail::Funding => match won_in(event, reply) {
             None => Ok(()),
-            Some(won) => put_funding_at(system, won.lottery, heading, writer, page),
+            Some(won) => put_funding_at(system.settle(), won.lottery, heading, writer, page),
         },
     }
 }
 
 /// Writes the funding at a processor's lottery in timed style, after the page.
 fn put_funding_at<W: Write>(
-    system: &mut System,
+    settled: Settled<'_>,
     lottery: Lottery,
     heading: Heading,
     writer: &mut Watched<W>,
@@ -53,9 +53,8 @@ fn put_funding_at<W: Write>(
 ) -> Result<(), IoFault>
     requires working { writer.old.failed ≡ false }
     requires unit { 0 < heading.unit }
-    ensures same { system.new ≡ system.old }
-    ensures text { Puts W.contents writer.old writer.new page.old page.new result
-        (spec.funding_at lottery heading.style heading.unit heading.actor (world_of system.old).state) }
+    ensures { Puts W.contents writer.old writer.new page.old page.new result
+        (spec.funding_at lottery heading.style heading.unit heading.actor settled.entry.kernel.now.state) }
 {
     match lottery {
         Lottery::OfMutex => Ok(()),
@@ -63,7 +62,7 @@ fn put_funding_at<W: Write>(
             LineStyle::Whole => Ok(()),
             LineStyle::Timed(_) => {
                 page.write_out(writer)?;
-                write_funding(system, heading, writer)
+                write_funding(settled, heading, writer)
             }
         },
     }
@@ -71,53 +70,50 @@ fn put_funding_at<W: Write>(
 
 /// Writes the lines of the active tickets, and then those of the currencies with an active amount.
 fn write_funding<W: Write>(
-    system: &mut System,
+    settled: Settled<'_>,
     heading: Heading,
     writer: &mut Watched<W>,
 ) -> Result<(), IoFault>
     requires working { writer.old.failed ≡ false }
     requires unit { 0 < heading.unit }
-    ensures same { system.new ≡ system.old }
-    ensures text { Writes W.contents writer.old writer.new result
-        (spec.funding_lines heading.style heading.unit heading.actor (world_of system.old).state) }
+    ensures { Writes W.contents writer.old writer.new result
+        (spec.funding_lines heading.style heading.unit heading.actor settled.entry.kernel.now.state) }
 {
-    write_tickets(system, heading, writer)?;
-    write_currencies(system, heading, writer)
+    write_tickets(settled, heading, writer)?;
+    write_currencies(settled, heading, writer)
 }
 
 /// Writes the lines of the active tickets.
 fn write_tickets<W: Write>(
-    system: &mut System,
+    settled: Settled<'_>,
     heading: Heading,
     writer: &mut Watched<W>,
 ) -> Result<(), IoFault>
     requires working { writer.old.failed ≡ false }
     requires unit { 0 < heading.unit }
-    ensures same { system.new ≡ system.old }
-    ensures text { Writes W.contents writer.old writer.new result
-        (flat_map (spec.ticket_funds heading.style heading.unit heading.actor (world_of system.old).state)
-        (numbers (world_of system.old).state.tickets)) }
+    ensures { Writes W.contents writer.old writer.new result
+        (flat_map (spec.ticket_funds heading.style heading.unit heading.actor settled.entry.kernel.now.state)
+        (numbers settled.entry.kernel.now.state.tickets)) }
 {
-    for place in 0..system.given_count(Kind::Tickets) {
-        write_ticket(system, heading, place + 1, writer)?;
+    for place in 0..settled.kernel.ticket_count() {
+        write_ticket(settled, heading, place + 1, writer)?;
     }
     Ok(())
 }
 
 /// Writes the line of the ticket with this number, if it is there and active.
 fn write_ticket<W: Write>(
-    system: &mut System,
+    settled: Settled<'_>,
     heading: Heading,
     number: u32,
     writer: &mut Watched<W>,
 ) -> Result<(), IoFault>
     requires working { writer.old.failed ≡ false }
     requires unit { 0 < heading.unit }
-    ensures same { system.new ≡ system.old }
-    ensures text { Writes W.contents writer.old writer.new result
-        (spec.ticket_funds heading.style heading.unit heading.actor (world_of system.old).state number) }
+    ensures { Writes W.contents writer.old writer.new result
+        (spec.ticket_funds heading.style heading.unit heading.actor settled.entry.kernel.now.state number) }
 {
-    let Some(row) = system.ticket_row(number) else {
+    let Some(row) = settled.ticket_row(TicketNumber { number }) else {
         return Ok(());
     };
     if !row.is_active {
@@ -128,37 +124,35 @@ fn write_ticket<W: Write>(
 
 /// Writes the lines of the currencies with an active amount.
 fn write_currencies<W: Write>(
-    system: &mut System,
+    settled: Settled<'_>,
     heading: Heading,
     writer: &mut Watched<W>,
 ) -> Result<(), IoFault>
     requires working { writer.old.failed ≡ false }
     requires unit { 0 < heading.unit }
-    ensures same { system.new ≡ system.old }
-    ensures text { Writes W.contents writer.old writer.new result
-        (flat_map (spec.currency_funds heading.style heading.unit heading.actor (world_of system.old).state)
-        (range_with_len 0 (length (world_of system.old).state.currencies))) }
+    ensures { Writes W.contents writer.old writer.new result
+        (flat_map (spec.currency_funds heading.style heading.unit heading.actor settled.entry.kernel.now.state)
+        (range_with_len 0 (length settled.entry.kernel.now.state.currencies))) }
 {
-    for number in 0..system.given_count(Kind::Currencies) {
-        write_currency(system, heading, number, writer)?;
+    for number in 0..settled.kernel.currency_count() {
+        write_currency(settled, heading, number, writer)?;
     }
     Ok(())
 }
 
 /// Writes the line of the currency with this number, if it is there and an amount of it is active.
 fn write_currency<W: Write>(
-    system: &mut System,
+    settled: Settled<'_>,
     heading: Heading,
     number: u32,
     writer: &mut Watched<W>,
 ) -> Result<(), IoFault>
     requires working { writer.old.failed ≡ false }
     requires unit { 0 < heading.unit }
-    ensures same { system.new ≡ system.old }
-    ensures text { Writes W.contents writer.old writer.new result
-        (spec.currency_funds heading.style heading.unit heading.actor (world_of system.old).state number) }
+    ensures { Writes W.contents writer.old writer.new result
+        (spec.currency_funds heading.style heading.unit heading.actor settled.entry.kernel.now.state number) }
 {
-    let Some(row) = system.currency_row(number) else {
+    let Some(row) = settled.currency_row(CurrencyNumber { number }) else {
         return Ok(());
     };
     if row.active_amount == 0 {

@@ -12,9 +12,9 @@ ghost use Rattle.lot_explain.specs.Lots.{draw_lots, loans_of, lots_of, waiter_lo
 
 use crate::entrants::{Entrants, next_entrants};
 use crate::loans::push_all_loans;
-use lot_engine::System;
+use lot_engine::{Settled, System};
 use lot_kept::Stack;
-use lot_machine::{Status, ThreadRow};
+use lot_machine::{Status, ThreadNumber, ThreadRow};
 use lot_print::{Compensation, Loan, Lot};
 use lot_program::Program;
 use std::alloc::{AllocError, Global};
@@ -107,7 +107,7 @@ impl Lots {
             }
             Entrants::Waiters(mutex) => {
                 system.list_waiters(mutex, &mut self.waiters);
-                push_waiters(&mut self.lots, system, &self.waiters);
+                push_waiters(&mut self.lots, system.settle(), &self.waiters);
             }
         }
     }
@@ -164,28 +164,26 @@ fn compensation_of(system: &System, thread: u32, row: &ThreadRow) -> Option<Comp
 }
 
 /// Adds the lots of a mutex's waiters.
-fn push_waiters(lots: &mut Vec<Lot>, system: &mut System, waiters: &[u32])
+fn push_waiters(lots: &mut Vec<Lot>, settled: Settled<'_>, waiters: &[u32])
     requires none { lots.old.items ≡ [] }
-    requires there { All (HasRow (world_of system.old).state) waiters.now }
+    requires there { All (HasRow settled.kernel.now.state) waiters.now }
     requires room { length waiters.now ≤ vec_capacity lots.old }
-    ensures same { system.new ≡ system.old }
-    ensures lots { lots.new.items ≡ map (waiter_lot (world_of system.old).state) waiters.now }
+    ensures lots { lots.new.items ≡ map (waiter_lot settled.entry.kernel.now.state) waiters.now }
     ensures room { vec_capacity lots.new ≡ vec_capacity lots.old }
 {
     for thread in waiters {
-        push_waiter(lots, system, *thread);
+        push_waiter(lots, settled, *thread);
     }
 }
 
 /// Adds the lot of a thread that waits for a mutex: it isn't dead, so it wasn't removed.
-fn push_waiter(lots: &mut Vec<Lot>, system: &mut System, thread: u32)
-    requires there { HasRow (world_of system.old).state thread }
+fn push_waiter(lots: &mut Vec<Lot>, settled: Settled<'_>, thread: u32)
+    requires there { HasRow settled.kernel.now.state thread }
     requires room { vec_len lots.old < vec_capacity lots.old }
-    ensures same { system.new ≡ system.old }
-    ensures lots { lots.new.items ≡ lots.old.items ++ waiter_lot (world_of system.old).state thread ∷ [] }
+    ensures lots { lots.new.items ≡ lots.old.items ++ waiter_lot settled.entry.kernel.now.state thread ∷ [] }
     ensures room { vec_capacity lots.new ≡ vec_capacity lots.old }
 {
-    let row = system.thread_row(thread).unwrap();
+    let row = settled.thread_row(ThreadNumber { number: thread }).unwrap();
     lots.push_reserved(Lot {
         thread,
         name: row.name,

@@ -45,29 +45,28 @@ ends-tail f (OfTicket n) from to is = let (c, from_is, issued) = ticket-tail f n
 ends-tail f (OfLender t) from to is = ap Some (sym (lender-tail f t from to is))
 ends-tail f (OfMutex m) from to is = ap Some (sym (mutex-tail f m from to is))
 
-module _ (l : Layout) (f : Funding) where
-  module _ (node : Node) (edges : List Edge) (into : HasEachOnce edges (LeadsInto f node)) where
-    pub tails-all : (v w : NodeLists) → Spreads v w (IsOfSome l (tail_of f) edges) → Spreads v w (IsNext l (IsBack f) node)
-    tails-all v w spreads = spread-by (IsNext l (IsBack f) node) spreads to back
-      where
-        to : (x : ℕ) → IsOfSome l (tail_of f) edges x → IsNext l (IsBack f) node x
-        to x (edge, c, (from, at, here)) =
-            let (tail, ends) = into.each edge c in
-            let same : tail ≡ from = some-injective tail from (sym (ends-tail f edge tail node ends) ∙ at) in
-            (from, subst (λ y. IsEdge f y node) same (edge, ends), here)
+module _ (l : Layout) (f : Funding) (node : Node) (edges : List Edge) (into : HasEachOnce edges (LeadsInto f node)) where
+  pub tails-all : (v w : NodeLists) → Spreads v w (IsOfSome l (tail_of f) edges) → Spreads v w (IsNext l (IsBack f) node)
+  tails-all v w spreads = spread-by (IsNext l (IsBack f) node) spreads to back
+    where
+      to : (x : ℕ) → IsOfSome l (tail_of f) edges x → IsNext l (IsBack f) node x
+      to x (edge, c, (from, at, here)) =
+          let (tail, ends) = into.each edge c in
+          let same : tail ≡ from = some-injective tail from (sym (ends-tail f edge tail node ends) ∙ at) in
+          (from, subst (λ y. IsEdge f y node) same (edge, ends), here)
 
-        back : (x : ℕ) → IsNext l (IsBack f) node x → IsOfSome l (tail_of f) edges x
-        back x (from, (edge, ends), here) = (edge, into.all edge (from, ends), (from, ends-tail f edge from node ends, here))
+      back : (x : ℕ) → IsNext l (IsBack f) node x → IsOfSome l (tail_of f) edges x
+      back x (from, (edge, ends), here) = (edge, into.all edge (from, ends), (from, ends-tail f edge from node ends, here))
 
-    -- these edges, and the nodes that they lead out of, have places
-    module _ (fits : FitsIn l f) (edge : Edge) (c : Contains edges edge) where
-      pub into-within : IsEdgeWithin l edge
-      into-within = let (from, ends) = into.each edge c in fits.edge edge from node ends
+  -- these edges, and the nodes that they lead out of, have places
+  module _ (fits : FitsIn l f) (edge : Edge) (c : Contains edges edge) where
+    pub into-within : IsEdgeWithin l edge
+    into-within = let (from, ends) = into.each edge c in fits.edge edge from node ends
 
-      pub tail-within : (tail : Option Node) → tail ≡ tail_of f edge → IfSome tail (IsNodeWithin l)
-      tail-within tail is =
-          let (from, ends) = into.each edge c in
-          subst (λ (o : Option Node). IfSome o (IsNodeWithin l)) (sym (is ∙ ends-tail f edge from node ends)) (fits.from edge from node ends)
+    pub tail-within : (tail : Option Node) → tail ≡ tail_of f edge → IfSome tail (IsNodeWithin l)
+    tail-within tail is =
+        let (from, ends) = into.each edge c in
+        subst (λ (o : Option Node). IfSome o (IsNodeWithin l)) (sym (is ∙ ends-tail f edge from node ends)) (fits.from edge from node ends)
 
 -- ---- a walk over edges
 

@@ -1,18 +1,16 @@
 -- The names that this crate's proofs cite, passed on from one place. Declares nothing.
-pub use Rattle.std.proofs.Common.{All, Bool, Contains, IsTrue, List, None, Option, Some, ap, append-nil, append_assoc, ap₂, arith, cond, false, filter, get_or, inl, inr, is_some, length, length-set, map, nat_le, nat_lt, not, option_and_then, option_map, refl, replicate, rules, set, slice_get, slice_set, subst, suc, sum_by, sym, take, true, zero, ℕ, [], ◌%◌, ◌&&◌, ◌++◌, ◌+◌, ◌-◌, ◌<◌, ◌^◌, ◌↔◌, ◌∙◌, ◌∷◌, ◌≡◌, ◌≤◌, ◌⊎◌}
-pub use Rattle.std.proofs.lemmas.Bool.{and_from, and_parts, cases_eq, cases_lt, eq-eqb, le-ltb, leb-false, leb-true, lt-ltb, ltb-false}
+pub use Rattle.std.proofs.Common.{All, Bool, Contains, IsTrue, List, None, Option, Some, ap, append-nil, append_assoc, ap₂, arith, cond, false, filter, get_or, inl, inr, is_some, length, length-set, map, nat_le, nat_lt, not, option_and_then, option_map, refl, remove, replicate, rules, set, slice_get, slice_set, subst, suc, sum_by, sym, take, true, zero, ℕ, [], ◌%◌, ◌&&◌, ◌++◌, ◌+◌, ◌-◌, ◌<◌, ◌^◌, ◌↔◌, ◌∙◌, ◌∷◌, ◌≡◌, ◌≤◌, ◌⊎◌}
 pub use Rattle.std.proofs.lemmas.Grind.{common_steps}
 pub use Rattle.std.proofs.lemmas.List.{get_or-replicate, get_or-set_other, get_or-set_same, get_or_past, length-append, length-map, length-replicate, length-take-le, map-append, take_more_set}
 pub use Rattle.std.proofs.lemmas.List.Elements.{Contains-append_left, Contains-append_right, Contains-push_cases}
-pub use Rattle.std.proofs.lemmas.List.Sums.{sum_by-cons}
 pub use Rattle.std.proofs.lemmas.Option.{slice_get-get_or, slice_get-map, slice_get_past, slice_get_within}
 pub use Rattle.std.specs.Iterator.{YieldsFirst}
-pub use Rattle.std.specs.List.{list_any, remove}
 pub use Rattle.std.specs.Option.{IfNone, IfSome, IsSome, option_copied, option_flatten}
 pub use Rattle.slab.proofs.SlabLemmas.{ContainsKey-within}
 pub use Rattle.slab.specs.Slab.{Slab, get, with_value}
 pub use Rattle.lot_machine.proofs.Amounts.{FundsThere-amount, HasNoCycle-amount, amount-issuers, amount-targets}
 pub use Rattle.lot_machine.proofs.Changes.{number-kept, number-push, number-set, number-there, place-after}
+pub use Rattle.lot_machine.proofs.Common.{Funding, HasNoCycle, IsChain, IsEdge, LendsLead, LendsTo, WouldCycle, all_tickets, and_from, and_parts, at_number, backing_currency, borrower, borrower_of, cases_eq, cases_lt, currency_funded, edge_count_into, edges_into, ends_of, eq-eqb, is_currency, is_funding, issued_in, issuer_of, le-ltb, leb-false, leb-true, lend_node, list_any, lt-ltb, ltb-false, option_any, owner_of, reissued, retargeted, set_number, sum_by-cons, target_node, target_of, ticket_at, ticket_in, with_amount, with_new_ticket, with_target, without_ticket}
 pub use Rattle.lot_machine.proofs.EachOnce.{apart-filter, apart-from, apart-map, contains-filter, contains-mapped, contains-nothing, filter-contains, mapped-contains, once-from, place-in}
 pub use Rattle.lot_machine.proofs.EdgeSums.{edges-many}
 pub use Rattle.lot_machine.proofs.EdgesOnce.{into-sums}
@@ -21,12 +19,6 @@ pub use Rattle.lot_machine.proofs.LendSums.{number-within}
 pub use Rattle.lot_machine.proofs.LendsKept.{HasNoCycle-freed, HasNoCycle-lends, HasNoCycle-lends_more, HasNoCycle-lends_nobody, lend-path, no-lend-back, no-lend-return}
 pub use Rattle.lot_machine.proofs.Paths.{HasNoReturn, IsPath, Leads, path-then}
 pub use Rattle.lot_machine.proofs.Tickets.{any_at, any_from, at_number-suc, is_currency-is, issued-at, issued-found, issuer-of, list_any-filter, place_of, some-injective, ticket-of, ticket_in-suc}
-pub use Rattle.lot_machine.specs.Commands.{is_funding}
-pub use Rattle.lot_machine.specs.Equations.{edges_into}
-pub use Rattle.lot_machine.specs.Facts.{HasNoCycle}
-pub use Rattle.lot_machine.specs.Funding.{Funding, IsChain, IsEdge, WouldCycle, all_tickets, backing_currency, currency_funded, edge_count_into, ends_of, is_currency, issued_in, issuer_of, lend_node, owner_of, reissued, retargeted, target_node, target_of, ticket_at, ticket_in, with_amount, with_new_ticket, with_target, without_ticket}
-pub use Rattle.lot_machine.specs.Lends.{LendsLead, LendsTo, borrower, borrower_of}
-pub use Rattle.lot_machine.specs.Numbered.{at_number, option_any, set_number}
 pub use Rattle.lot_machine.specs.declared.funding.Edge.{Edge}
 pub use Rattle.lot_machine.specs.declared.funding.Edge.TheVariants.{OfLender, OfMutex, OfTicket}
 pub use Rattle.lot_machine.specs.declared.funding.Lend.{Lend}

@@ -28,3 +28,4 @@ pub mod Refusing
 pub mod Looking
 pub mod Keeping
 pub mod Shown
+pub mod Lemmas

@@ -128,6 +128,13 @@ impl Kernel {
         self.tables.currencies.len() as u32
     }
 
+    /// How many numbers of threads have been given, those of removed ones included. They begin at 1.
+    pub fn thread_count(&self) -> u32
+        ensures { result ≡ length self.now.state.records }
+    {
+        self.tables.threads.records().len() as u32
+    }
+
     /// Makes one event and returns its reply. It allocates nothing. A refused event changes nothing; a trap whose
     /// outcome is a refusal costs its ticks. Values are computed only by a draw that isn't refused and by an unlock
     /// that passes its mutex on.

@@ -1,28 +1,6 @@
 -- A graph and what is kept for it, after a call of the graph.
-use Rattle.std.proofs.Common.{◌≡◌, ℕ, zero, suc, Bool, false, Option, Some, None, List, [], ◌∷◌, ◌++◌, length, ◌+◌, option_and_then, ap, sym, ◌∙◌, refl, subst, ◌-◌, length-append, length-set}
-use Rattle.std.specs.Option.{OnSome, IfNone, IsSome, is_some}
-use Rattle.lot_machine.specs.declared.ticket.Target.{Target}
+use Rattle.lot_kernel_tests.proofs.Common.{Activity, AddsEdge, Agree, Bool, Both, Currency, EdgeEnds, FitsLimits, Funding, IfNone, IsBorrower, IsFunding, IsLender, IsLive, IsMutex, IsSome, IsSound, IsTarget, Lend, LimitedFunding, List, Mutex, Nobody, Node, None, OfLender, OfMutex, OfTicket, OnSome, Option, Some, Target, Thread, ToMutex, ToThread, ap, at_number, at_number-suc, currencies-kept, disown-edge, edge_between, ends-there, ends_of_edge, false, fund-edge, funding-ticket, is_some, issue-kept, lend-edge, lend_node, lender-ends, length, length-append, length-set, mutex-ends, option_and_then, refl, same-ends, set_number, subst, suc, sym, target-ticket, target_node, target_of, thread-kept, unfund-edge, unlend-edge, with_currencies, with_lends, with_new_ticket, with_owners, with_target, with_tickets, zero, ℕ, [], ◌++◌, ◌+◌, ◌-◌, ◌∙◌, ◌∷◌, ◌≡◌}
 use Rattle.lot_machine.specs.declared.ticket.Target.TheVariants as target
-use Rattle.lot_machine.specs.declared.funding.Node.{Node}
-use Rattle.lot_machine.specs.declared.funding.Node.TheVariants.{Currency, Thread, Mutex}
-use Rattle.lot_machine.specs.declared.funding.Edge.TheVariants.{OfTicket, OfLender, OfMutex}
-use Rattle.lot_machine.specs.declared.funding.Lend.{Lend}
-use Rattle.lot_machine.specs.declared.funding.Lend.TheVariants.{Nobody, ToThread, ToMutex}
-use Rattle.lot_machine.specs.Numbered.{at_number, set_number}
-use Rattle.lot_machine.specs.Funding.{Funding, target_of, target_node, lend_node, with_new_ticket, with_target}
-use Rattle.lot_machine.specs.Lends.{IsLive}
-use Rattle.lot_machine.proofs.Tickets.{at_number-suc}
-use Rattle.lot_graph.specs.Graphs.{LimitedFunding, IsSound, IsMutex, IsTarget, IsFunding, IsLender, IsBorrower}
-use Rattle.lot_graph.specs.Places.{FitsLimits}
-use Rattle.lot_graph.proofs.FieldLemmas.{target-ticket, funding-ticket}
-use Rattle.lot_graph.proofs.EndLemmas.{lender-ends, mutex-ends}
-use Rattle.lot_active.specs.declared.edge_ends.EdgeEnds.{EdgeEnds}
-use Rattle.lot_active.specs.Activity.{Activity}
-use Rattle.lot_active.specs.Fundings.{AddsEdge, ends_of_edge, edge_between}
-use Rattle.lot_kernel_tests.specs.Both.{Both, Agree}
-use Rattle.lot_active.proofs.Edits.{same-ends, ends-there}
-use Rattle.lot_active.proofs.CallEdits.{fund-edge, unfund-edge, lend-edge, unlend-edge, disown-edge, issue-kept, thread-kept, currencies-kept}
-use Rattle.lot_graph.specs.Changes.{with_currencies, with_lends, with_owners, with_tickets}
 
 abbrev pub both : LimitedFunding → Activity → Both
 both w v = record { graph = w; activity = v }

@@ -1,13 +1,5 @@
 -- A room, after a change of its graph.
-use Rattle.std.proofs.Common.{◌≡◌, ◌∙◌, List, length, ap, arith, refl}
-use Rattle.lot_machine.specs.declared.funding.Lend.{Lend}
-use Rattle.lot_machine.specs.declared.funding.Node.{Node}
-use Rattle.lot_value.specs.declared.change.GraphChange.{GraphChange}
-use Rattle.lot_value.specs.Caches.{IsStale}
-use Rattle.lot_value.specs.Changing.{applied, lends_after}
-use Rattle.lot_value.specs.Valued.{Valued}
-use Rattle.lot_draw.specs.Queued.{Queued, AreWeights, CompetesIn}
-use Rattle.lot_draw.proofs.Together.{competes-more, weights-follow}
+use Rattle.lot_kernel_tests.proofs.Common.{AreWeights, CompetesIn, GraphChange, IsStale, Lend, List, Node, Queued, Valued, ap, applied, arith, competes-more, lends_after, length, refl, weights-follow, ◌∙◌, ◌≡◌}
 
 -- the room is in order
 pub record InOrder (v : Valued) (q : Queued) : Type 0 where

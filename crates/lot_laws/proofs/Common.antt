@@ -1,19 +1,15 @@
 -- The names that this crate's proofs cite, passed on from one place. Declares nothing.
-pub use Rattle.std.proofs.Common.{All, Bool, Contains, List, None, Option, Some, ap, arith, codes, cond, count_by, drop, eq-eqb, false, filter, filter_map, get_or, if◌then◌else◌, inl, inr, is_none, is_some, length, map, nat_le, nat_lt, not, option_and_then, option_map, position, refl, slice_get, slice_index, slice_set, subst, suc, sum, sum_by, sym, true, unwrap_or, zero, ℕ, [], ◌&&◌, ◌*◌, ◌++◌, ◌+◌, ◌-◌, ◌/◌, ◌<◌, ◌==◌, ◌^◌, ◌||◌, ◌↔◌, ◌∙◌, ◌∷◌, ◌≡◌, ◌≢◌, ◌≤◌, ◌⊎◌}
-pub use Rattle.std.proofs.Math.ListN.{length-set}
+pub use Rattle.std.proofs.Common.{All, Bool, Contains, List, None, Option, Some, ap, arith, codes, cond, count_by, drop, eq-eqb, false, filter, filter_map, get_or, if◌then◌else◌, inl, inr, is_none, is_some, length, map, nat_le, nat_lt, not, option_and_then, option_map, position, refl, remove, slice_get, slice_index, slice_set, subst, suc, sum, sum_by, sym, true, unwrap_or, zero, ℕ, [], ◌&&◌, ◌*◌, ◌++◌, ◌+◌, ◌-◌, ◌/◌, ◌<◌, ◌==◌, ◌^◌, ◌||◌, ◌↔◌, ◌∙◌, ◌∷◌, ◌≡◌, ◌≢◌, ◌≤◌, ◌⊎◌}
 pub use Rattle.std.proofs.Math.Nat.{add-mul, div-le_self, lt-div-mul-add, mul-add, mul-le-mul_right, mul_comm, pow-suc, pow-succ', pow-zero}
 pub use Rattle.std.proofs.lemmas.Bool.{cases_eq, cases_lt, eqb-false, eqb-true, le-leb, ltb-false, ne_eqb, or_cases, or_parts}
 pub use Rattle.std.proofs.lemmas.List.{length-append, length-map, length-replicate, map-set, set-set}
 pub use Rattle.std.proofs.lemmas.List.Elements.{All-contains, All-head, All-tail, Contains-append_cases, Contains-append_left, Contains-append_right, Contains-get_or}
 pub use Rattle.std.proofs.lemmas.List.FromFn.{length-range_with_len}
-pub use Rattle.std.proofs.lemmas.List.Quantifiers.{position-Some}
 pub use Rattle.std.proofs.lemmas.List.Sums.{count_by-le-length, length-filter, sum_by-append, sum_by-cons}
-pub use Rattle.std.proofs.lemmas.Option.{slice_get-get_or, slice_get-map, slice_get_cases, slice_get_within}
 pub use Rattle.std.specs.List.{flat_map, list_any, range_with_len}
-pub use Rattle.std.specs.Option.{option_flatten, option_or}
-pub use Rattle.std.specs.Prelude.{remove}
 pub use Rattle.lot_machine.proofs.Changes.{number-kept, number-push, number-set, number-there, place-set, place-set_other, place-set_same}
 pub use Rattle.lot_machine.proofs.CommandsKept.{IsThere, all-pass, none-of, some-of, unrefused}
+pub use Rattle.lot_machine.proofs.Common.{ChainLeads, DropCurrency, Funding, FundsThere, HasEachOnce, HasEquation, HasNoCycle, HasOneSidedPorts, HasQueues, IsActive, IsBacked, IsChain, IsChangedEdge, IsChangedLife, IsChangedNode, IsEdge, IsEdgeOfEither, IsInOrder, IsLendChain, IsLive, IsOneSided, IsPath, IsQueue, IsTouched, LeadsInto, LendsLead, LendsTo, NewCurrency, NewThread, PathLeads, PutClients, PutPort, PutRecord, Touches, activates_within, active_amount, after_trap, all_tickets, at_number, backing_currency, backing_thread, base_value, before_lock, borrower, borrower_of, compensation_for, currency_value, edge_count_into, edges_into, ended, ends_of, heir, held_by, is_active, is_backed, is_currency, is_live, is_owned_by, is_thread, is_to_mutex, issued_in, issuer_of, killed, leads_back, lend_node, lends_lead, lends_on_to, length-set, live_value, lock, mutex_at, mutex_without, next_place, node_value, numbers, option_any, option_flatten, option_or, own_value, owner_of, passed_on, placed, port_holders, port_without, position-Some, reissued, released, released_by, retargeted, served_at, set_number, share, shares_into, slice_get-get_or, slice_get-map, slice_get_cases, slice_get_within, target_node, target_of, thread_value, ticket_at, ticket_in, ticket_share, ticket_value, ticket_value_within, total_weight, unlock, unserved, unserved_at, waiters_for, weighed_of, winner, with_amount, with_new_ticket, with_server, with_target, with_ticks, without, without_servers, without_ticket}
 pub use Rattle.lot_machine.proofs.CountsOnce.{counts-once, live-thread}
 pub use Rattle.lot_machine.proofs.CurrencyFlow.{sum-le_there, term-there}
 pub use Rattle.lot_machine.proofs.EachOnce.{IsApart, apart-append, apart-filter, apart-from, apart-map, apart-range, contains-at, contains-filter, contains-later, contains-mapped, contains-nothing, filter-contains, mapped-contains, once-from, place-in, range-contains, same-sums}
@@ -46,28 +42,12 @@ pub use Rattle.lot_machine.proofs.Unlent.{is_thread-is}
 pub use Rattle.lot_machine.proofs.Unserved.{counted, lends-off, locks-off, run-holders, served-off}
 pub use Rattle.lot_machine.proofs.ValueDepth.{ticket_value-unfolds}
 pub use Rattle.lot_machine.proofs.Weighed.{there-weighed, weighed-there}
-pub use Rattle.lot_machine.specs.Activity.{IsActive, activates_within, active_amount, is_active}
-pub use Rattle.lot_machine.specs.Change.{DropCurrency, NewCurrency, NewThread, PutClients, PutPort, PutRecord}
 pub use Rattle.lot_machine.specs.Commands.{Step, are_currencies_full, are_threads_full, are_tickets_full, command_effect, command_refusal, command_step, currency_meant, currency_named, currency_or_base, drop_thread, first_failing, is_bad_amount, is_cycle, is_dead_in, is_dead_thread, is_funding, is_in_use, is_meant_by, is_name, is_no_script, is_taken, is_thread_in_use, is_thread_name, is_unfunded, newborn, target_meant, target_named, thread_meant, thread_named, unless_refused, with_thread, with_ticket}
-pub use Rattle.lot_machine.specs.Equations.{HasEachOnce, HasEquation, LeadsInto, edges_into, share, shares_into, ticket_share}
-pub use Rattle.lot_machine.specs.Facts.{FundsThere, HasNoCycle, base_value, live_value, total_weight}
-pub use Rattle.lot_machine.specs.Funding.{ChainLeads, Funding, IsChain, IsEdge, all_tickets, backing_currency, backing_thread, edge_count_into, ends_of, is_currency, is_thread, is_to_mutex, issued_in, issuer_of, lend_node, owner_of, reissued, retargeted, target_node, target_of, ticket_at, ticket_in, weighed_of, with_amount, with_new_ticket, with_target, without_ticket}
-pub use Rattle.lot_machine.specs.Kill.{ended, heir, is_owned_by, killed, mutex_without, passed_on, port_without, released, released_by, without}
-pub use Rattle.lot_machine.specs.Lends.{IsBacked, IsLendChain, IsLive, LendsLead, LendsTo, borrower, borrower_of, is_backed, is_live, lends_lead, lends_on_to}
-pub use Rattle.lot_machine.specs.Lottery.{winner}
-pub use Rattle.lot_machine.specs.Mutexes.{lock, mutex_at, unlock}
 pub use Rattle.lot_machine.specs.Named.{thread_given}
-pub use Rattle.lot_machine.specs.Numbered.{at_number, numbers, option_any, set_number}
-pub use Rattle.lot_machine.specs.Order.{HasOneSidedPorts, HasQueues, IsInOrder, IsOneSided, IsQueue}
-pub use Rattle.lot_machine.specs.Places.{next_place, placed}
 pub use Rattle.lot_machine.specs.Ports.{PortTrap, call, clients_of, first_client, port_at, receive, reply, serve, with_client}
 pub use Rattle.lot_machine.specs.Rows.{target_name}
-pub use Rattle.lot_machine.specs.Servers.{before_lock, held_by, leads_back, port_holders, served_at, unserved, unserved_at, with_server, without_servers}
 pub use Rattle.lot_machine.specs.State.{Mutex, Port, QueuedCall, State, change_each, change_record, free_currencies, free_threads, free_tickets, funding_of, holder_of, holders, is_asleep, is_live_status, lend_of, lends_at, live_in, live_of, next_thread, opening, ready_threads, status_of, thread_at, thread_on, value_of, weight_of}
 pub use Rattle.lot_machine.specs.Step.{Effect, at_port, checked_effect, draw, event_effect, event_refusal, finish_trap, is_bad_processor, is_no_mutex, of_mutexes, of_ports, owns, replies, started, state_after, step, stopped, thread_there, trap, trap_effect, trap_refusal, used_there, wake}
-pub use Rattle.lot_machine.specs.Touched.{IsChangedEdge, IsChangedLife, IsChangedNode, IsEdgeOfEither, IsPath, IsTouched, PathLeads, Touches}
-pub use Rattle.lot_machine.specs.Traps.{after_trap, compensation_for, with_ticks}
-pub use Rattle.lot_machine.specs.Value.{currency_value, node_value, own_value, thread_value, ticket_value, ticket_value_within, waiters_for}
 pub use Rattle.lot_machine.specs.Worked.{after, fundx, settkt}
 pub use Rattle.lot_machine.specs.WorkedRuns.{two_to_one}
 pub use Rattle.lot_machine.specs.declared.action.Action.{Action}

@@ -37,3 +37,4 @@ pub mod QueueGathers
 pub mod ServingGathers
 pub mod Killed
 pub mod Issuers
+pub mod Lemmas

@@ -1,24 +1,5 @@
 -- A mutex that is handed over, in three changes of the threads: it becomes free, its next owner wakes, and it belongs to that one.
-use Rattle.std.proofs.Common.{◌≡◌, ◌≢◌, ◌∙◌, ℕ, suc, ◌-◌, arith, ◌⊎◌, inl, inr, length, Option, Some, None, List, ap, sym, refl, subst, option_map, length-set}
-use Rattle.std.specs.Option.{option_flatten}
-use Rattle.std.proofs.lemmas.Bool.{cases_eq}
-use Rattle.lot_machine.specs.declared.record.Record.{Record}
-use Rattle.lot_machine.specs.declared.record.Status.TheVariants.{Ready}
-use Rattle.lot_machine.specs.Funding.{owner_of}
-use Rattle.lot_machine.specs.Kill.{released}
-use Rattle.lot_machine.specs.Lends.{IsLive}
-use Rattle.lot_machine.specs.Numbered.{at_number, set_number}
-use Rattle.lot_machine.specs.State.{change_record, live_in, status_of}
-use Rattle.lot_machine.proofs.Changes.{number-set}
-use Rattle.lot_machine.proofs.Queues.{number-set_same, status-now}
-use Rattle.lot_machine.proofs.Tickets.{some-injective}
-use Rattle.lot_graph.specs.Graphs.{IsMutex}
-use Rattle.lot_value.specs.Changing.{CanOwn}
-use Rattle.lot_value.proofs.Lending.{number-some}
-use Rattle.lot_queues.proofs.Callers.{number-again}
-use Rattle.lot_threads.specs.Threaded.{Threaded, IsThreadOf, MakesStaleIn, funding_in, with_records}
-use Rattle.lot_threads.proofs.TwoChanges.{IsOwnerBetween, makes-each}
-use Rattle.lot_threads.proofs.Ways.{live-apart, live-status, live-there}
+use Rattle.lot_mutex.proofs.Common.{CanOwn, IsLive, IsMutex, IsOwnerBetween, IsThreadOf, List, MakesStaleIn, None, Option, Ready, Record, Some, Threaded, ap, arith, at_number, cases_eq, change_record, funding_in, inl, inr, length, length-set, live-apart, live-status, live-there, live_in, makes-each, number-again, number-set, number-set_same, number-some, option_flatten, option_map, owner_of, refl, released, set_number, some-injective, status-now, status_of, subst, suc, sym, with_records, ℕ, ◌-◌, ◌∙◌, ◌≡◌, ◌≢◌, ◌⊎◌}
 
 module _ (a b d : Threaded) (m next : ℕ) (mutex : IsMutex (funding_in a) m) (thread : IsThreadOf a next) (other : owner_of (funding_in a) m ≢ Some next)
     (first : b ≡ record a { owners = set_number a.owners m None; stale = b.stale }) (second : d ≡ with_records b (change_record released b.records next) d.stale) where

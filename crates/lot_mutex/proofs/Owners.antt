@@ -1,25 +1,6 @@
 -- Who owns each mutex, as the queues have it and as the threads have it.
-use Rattle.std.proofs.Common.{◌≡◌, ◌≢◌, ◌∙◌, ℕ, ◌-◌, ◌<◌, ◌≤◌, arith, suc, length, map, remove, slice_get, slice_index, Option, Some, None, is_some, List, [], ◌∷◌, ◌++◌, unwrap_or, option_map, ap, sym, refl}
-use Rattle.std.specs.Bool.{IsTrue}
-use Rattle.std.specs.Option.{IfSome, option_flatten}
-use Rattle.std.proofs.lemmas.List.{length-map, map-set}
-use Rattle.std.proofs.lemmas.Option.{slice_get-get_or}
-use Rattle.lot_machine.specs.declared.after.After.TheVariants.{Leaves}
-use Rattle.lot_machine.specs.declared.drawn.Drawn.{Drawn}
-use Rattle.lot_machine.specs.declared.record.Record.{Record}
+use Rattle.lot_mutex.proofs.Common.{Drawn, IfSome, IsThere, IsTrue, Leaves, List, Mutex, MutexTrap, None, Option, Passed, Record, Some, Threaded, ap, arith, at_number, at_number-map, at_number-suc, change_record, is_some, length, length-map, lock, map, map-set, mutex_at, number-kept, number-some, option_flatten, option_map, owners_of, refl, remove, set_number, slice_get, slice_get-get_or, slice_index, some-injective, suc, sym, unlock, unwrap_or, winner, with_mutexes, ℕ, [], ◌++◌, ◌-◌, ◌<◌, ◌∙◌, ◌∷◌, ◌≡◌, ◌≢◌, ◌≤◌}
 use Rattle.lot_machine.specs.declared.record.Status.TheVariants as status
-use Rattle.lot_machine.specs.declared.reply.Outcome.TheVariants.{Passed}
-use Rattle.lot_machine.specs.Lottery.{winner}
-use Rattle.lot_machine.specs.Numbered.{at_number, set_number}
-use Rattle.lot_machine.specs.Mutexes.{MutexTrap, mutex_at, lock, unlock}
-use Rattle.lot_machine.specs.State.{Mutex, change_record}
-use Rattle.lot_machine.proofs.Changes.{number-kept}
-use Rattle.lot_machine.proofs.Tickets.{at_number-suc, some-injective}
-use Rattle.lot_machine.proofs.TrapCycles.{at_number-map}
-use Rattle.lot_queues.specs.QueueLists.{IsThere}
-use Rattle.lot_threads.specs.Threaded.{Threaded}
-use Rattle.lot_value.proofs.Lending.{number-some}
-use Rattle.lot_mutex.specs.Listed.{owners_of, with_mutexes}
 
 -- a mutex's owner is the one with its number
 pub owner-at : (mutexes : List Mutex) (m : ℕ) → IsThere mutexes m → at_number (owners_of mutexes) m ≡ Some (mutex_at mutexes m).owner

@@ -1,30 +1,5 @@
 -- The mutexes of a thread are passed on, one after another.
-use Rattle.std.proofs.Common.{◌≡◌, ◌≢◌, ◌∙◌, ℕ, suc, ◌+◌, ◌-◌, ◌<◌, arith, ◌==◌, Bool, true, false, ◌⊎◌, inl, inr, cond, length, map, take, drop, remove, filter_map, Option, Some, None, List, [], ◌∷◌, ◌++◌, append_assoc, ap, sym, refl, subst, slice_get, slice_set, unwrap_or}
-use Rattle.std.specs.List.{cons_option}
-use Rattle.std.specs.Option.{option_eq, option_flatten}
-use Rattle.std.proofs.Math.Dec.{eqb}
-use Rattle.std.proofs.Math.Seq.{set-append_seam}
-use Rattle.std.proofs.lemmas.Bool.{cases_eq, eqb-true, eqb-false, eq-eqb}
-use Rattle.std.proofs.lemmas.List.{append-nil, length-append, length-map, map-append}
-use Rattle.std.proofs.lemmas.List.Elements.{filter_map-append}
-use Rattle.lot_machine.specs.declared.funding.Node.{Node}
-use Rattle.lot_machine.specs.declared.record.Record.{Record}
-use Rattle.lot_machine.specs.Funding.{owner_of}
-use Rattle.lot_machine.specs.Kill.{is_owned_by, passed_on, released}
-use Rattle.lot_machine.specs.Mutexes.{mutex_at}
-use Rattle.lot_machine.specs.Numbered.{at_number, set_number, option_any}
-use Rattle.lot_machine.specs.State.{Mutex, change_record, change_each}
-use Rattle.lot_machine.proofs.Changes.{number-set}
-use Rattle.lot_machine.proofs.EachOnce.{contains-at}
-use Rattle.lot_machine.proofs.Killed.{each-append, each-between}
-use Rattle.lot_machine.proofs.StepSizes.{each-length}
-use Rattle.lot_machine.proofs.Tickets.{at_number-suc, some-injective}
-use Rattle.lot_graph.specs.Graphs.{IsMutex}
-use Rattle.lot_queues.specs.QueueLists.{QueueLists, IsThere, IsNowhere, with_waiters, with_owner}
-use Rattle.lot_queues.proofs.Callers.{first-none, first-some, mutex-passed}
-use Rattle.lot_threads.specs.Threaded.{Threaded, IsStaleIn, IsThreadOf, MakesStaleIn, funding_in, with_records}
-use Rattle.lot_threads.proofs.TwoChanges.{IsOwnerBetween, makes-each}
-use Rattle.lot_mutex.specs.Listed.{next_from, owners_of, passed_from}
+use Rattle.lot_mutex.proofs.Common.{Bool, IsMutex, IsNowhere, IsOwnerBetween, IsStaleIn, IsThere, IsThreadOf, List, MakesStaleIn, Mutex, Node, None, Option, QueueLists, Record, Some, Threaded, ap, append-nil, append_assoc, arith, at_number, at_number-suc, cases_eq, change_each, change_record, cond, cons_option, contains-at, drop, each-append, each-between, each-length, eq-eqb, eqb, eqb-false, eqb-true, false, filter_map, filter_map-append, first-none, first-some, funding_in, inl, inr, is_owned_by, length, length-append, length-map, makes-each, map, map-append, mutex-passed, mutex_at, next_from, number-set, option_any, option_eq, option_flatten, owner_of, owners_of, passed_from, passed_on, refl, released, remove, set-append_seam, set_number, slice_get, slice_set, some-injective, subst, suc, sym, take, true, unwrap_or, with_owner, with_records, with_waiters, ℕ, [], ◌++◌, ◌+◌, ◌-◌, ◌<◌, ◌==◌, ◌∙◌, ◌∷◌, ◌≡◌, ◌≢◌, ◌⊎◌}
 use Rattle.lot_mutex.proofs.Owners.{owned-there, owner-at, owners-after}
 
 -- ---- one mutex

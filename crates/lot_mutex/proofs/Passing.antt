@@ -1,26 +1,5 @@
 -- A mutex that is passed on, in two changes of the threads: its next owner wakes, and the mutex moves to it.
-use Rattle.std.proofs.Common.{◌≡◌, ◌∙◌, ℕ, ◌⊎◌, inl, inr, Option, Some, None, List, [], option_map, ap, sym, refl, subst}
-use Rattle.std.specs.List.{Contains}
-use Rattle.lot_machine.specs.declared.funding.Node.{Node}
-use Rattle.lot_machine.specs.declared.funding.Edge.{Edge}
-use Rattle.lot_machine.specs.declared.funding.Edge.TheVariants.{OfTicket, OfLender, OfMutex}
-use Rattle.lot_machine.specs.declared.funding.Lend.{Lend}
-use Rattle.lot_machine.specs.declared.record.Record.{Record}
-use Rattle.lot_machine.specs.declared.reply.Outcome.{Outcome}
-use Rattle.lot_machine.specs.declared.reply.Outcome.TheVariants.{Passed}
-use Rattle.lot_machine.specs.declared.record.Status.TheVariants.{Ready}
-use Rattle.lot_machine.specs.Funding.{Funding, weighed_of}
-use Rattle.lot_machine.specs.Numbered.{at_number, set_number}
-use Rattle.lot_machine.specs.Lends.{IsLive}
-use Rattle.lot_machine.specs.State.{change_record, is_live_status, live_in, status_of}
-use Rattle.lot_machine.specs.Touched.{IsTouched, PathLeads, WeighedBetween}
-use Rattle.lot_machine.proofs.EachOnce.{contains-nothing}
-use Rattle.lot_machine.proofs.Tickets.{some-injective}
-use Rattle.lot_machine.proofs.TrapCycles.{at_number-map}
-use Rattle.lot_machine.proofs.TwoSteps.{edges-between, live-between}
-use Rattle.lot_value.specs.declared.meter.Meter.{Meter}
-use Rattle.lot_threads.specs.Threaded.{Threaded, IsStaleIn, MakesStaleIn, funding_in, lends_in, settled_in, with_records}
-use Rattle.lot_threads.proofs.TwoChanges.{makes-both-in}
+use Rattle.lot_mutex.proofs.Common.{Contains, Edge, Funding, IsLive, IsStaleIn, IsTouched, Lend, List, MakesStaleIn, Meter, Node, None, OfLender, OfMutex, OfTicket, Option, Outcome, Passed, PathLeads, Ready, Record, Some, Threaded, WeighedBetween, ap, at_number, at_number-map, change_record, contains-nothing, edges-between, funding_in, inl, inr, is_live_status, lends_in, live-between, live_in, makes-both-in, option_map, refl, set_number, settled_in, some-injective, status_of, subst, sym, weighed_of, with_records, ℕ, [], ◌∙◌, ◌≡◌, ◌⊎◌}
 
 -- ---- edges
 

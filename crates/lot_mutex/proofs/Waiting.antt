@@ -1,14 +1,5 @@
 -- Lists of threads that wait, place by place.
-use Rattle.std.proofs.Common.{◌≡◌, ◌∙◌, ℕ, zero, suc, ◌+◌, ◌<◌, ◌≤◌, ◌⊎◌, inl, inr, Some, List, [], ◌∷◌, length, slice_get, slice_index, take, ap, sym, subst, arith}
-use Rattle.std.specs.List.{Contains}
-use Rattle.std.proofs.Math.Nat.{eq-or-lt_of_le}
-use Rattle.std.proofs.lemmas.Bool.{cases_lt}
-use Rattle.std.proofs.lemmas.Option.{slice_get-get_or, slice_get_within, get_or_from_slice_get}
-use Rattle.lot_machine.specs.declared.record.Record.{Record}
-use Rattle.lot_machine.specs.declared.record.Status.{Status}
-use Rattle.lot_machine.specs.Order.{IsQueue}
-use Rattle.lot_machine.specs.State.{status_of}
-use Rattle.lot_machine.proofs.EachOnce.{contains-at}
+use Rattle.lot_mutex.proofs.Common.{Contains, IsQueue, List, Record, Some, Status, ap, arith, cases_lt, contains-at, eq-or-lt_of_le, get_or_from_slice_get, inl, inr, length, slice_get, slice_get-get_or, slice_get_within, slice_index, status_of, subst, suc, sym, take, zero, ℕ, [], ◌+◌, ◌<◌, ◌∙◌, ◌∷◌, ◌≡◌, ◌≤◌, ◌⊎◌}
 
 -- what holds at each place before one, and at that one, holds at each up to it
 pub up-to : (P : ℕ → Type 0) (n : ℕ) → ((k : ℕ) → k < n → P k) → P n → (k : ℕ) → k < n + 1 → P k

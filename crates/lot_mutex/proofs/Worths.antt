@@ -1,30 +1,5 @@
 -- What the waiters for a mutex are worth together: no more than the mutex.
-use Rattle.std.proofs.Common.{◌≡◌, ◌∙◌, ℕ, suc, ◌<◌, ◌≤◌, ◌%◌, Bool, true, false, MatchOption, Option, Some, None, List, [], ◌∷◌, length, map, sum, sum_by, slice_get, option_map, ap, refl, subst, arith, if◌then◌else◌}
-use Rattle.std.specs.List.{All, Contains}
-use Rattle.std.specs.Option.{IfSome}
-use Rattle.std.proofs.lemmas.Bool.{eq-eqb}
-use Rattle.std.proofs.lemmas.List.{length-map}
-use Rattle.std.proofs.lemmas.List.Sums.{sum-map, sum_by-cons}
-use Rattle.std.proofs.lemmas.Option.{slice_get-get_or}
-use Rattle.lot_machine.specs.declared.drawn.Drawn.{Drawn}
-use Rattle.lot_machine.specs.declared.funding.Node.{Node}
-use Rattle.lot_machine.specs.declared.funding.Lend.TheVariants.{Nobody, ToMutex}
-use Rattle.lot_machine.specs.declared.record.Record.{Record}
-use Rattle.lot_machine.specs.declared.record.Status.TheVariants.{Waiting}
-use Rattle.lot_machine.specs.Funding.{is_to_mutex}
-use Rattle.lot_machine.specs.Lottery.{winner, IsFirstAbove}
-use Rattle.lot_machine.specs.Numbered.{at_number, numbers, option_any}
-use Rattle.lot_machine.specs.Order.{IsQueue}
-use Rattle.lot_machine.specs.State.{lend_of, live_in, is_live_status}
-use Rattle.lot_machine.specs.Value.{mutex_value, waiters_for}
-use Rattle.lot_machine.proofs.Draws.{winner-is}
-use Rattle.lot_machine.proofs.EachOnce.{apart-from, contains-nothing, filter-contains, place-in, range-contains, sums-within}
-use Rattle.lot_machine.specs.Lends.{borrower_of, is_live}
-use Rattle.lot_machine.proofs.Tickets.{some-injective}
-use Rattle.lot_machine.proofs.TrapCycles.{at_number-map, lend-at}
-use Rattle.lot_machine.proofs.Unlent.{lends-to-nobody, unlent-nothing}
-use Rattle.lot_threads.specs.Threaded.{Threaded, IsStaleIn, IsThreadOf, funding_in, lends_in, worth_in}
-use Rattle.lot_threads.proofs.Ways.{number-low, number-high}
+use Rattle.lot_mutex.proofs.Common.{All, Bool, Contains, Drawn, IfSome, IsFirstAbove, IsQueue, IsStaleIn, IsThreadOf, List, MatchOption, Nobody, Node, None, Option, Record, Some, Threaded, ToMutex, Waiting, ap, apart-from, arith, at_number, at_number-map, borrower_of, contains-nothing, eq-eqb, false, filter-contains, funding_in, if◌then◌else◌, is_live, is_live_status, is_to_mutex, lend-at, lend_of, lends-to-nobody, lends_in, length, length-map, live_in, map, mutex_value, number-high, number-low, numbers, option_any, option_map, place-in, range-contains, refl, slice_get, slice_get-get_or, some-injective, subst, suc, sum, sum-map, sum_by, sum_by-cons, sums-within, true, unlent-nothing, waiters_for, winner, winner-is, worth_in, ℕ, [], ◌%◌, ◌<◌, ◌∙◌, ◌∷◌, ◌≡◌, ◌≤◌}
 
 -- what is worth nothing each is worth nothing together
 nothing-together : (value : ℕ → ℕ) (xs : List ℕ) → ((place t : ℕ) → slice_get xs place ≡ Some t → value t ≡ 0) → sum_by value xs ≡ 0

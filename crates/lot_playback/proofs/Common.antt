@@ -1,82 +1,36 @@
 -- The names that this crate's proofs cite, passed on from one place. Declares nothing.
-pub use Rattle.std.proofs.Common.{All, Bool, List, None, Option, Some, ap, append-nil, append_assoc, arith, cond, drop, false, filter, filter_map, get_or, if◌then◌else◌, inl, inr, is_none, is_some, length, length-append, length-drop, map, nat_le, ne_eqb, not, option_map, refl, replicate, rules, set, slice_get, slice_index, subst, suc, sum_by, sym, take, true, unwrap_or, vec_len, zero, ℕ, [], ◌*◌, ◌++◌, ◌+◌, ◌-◌, ◌/◌, ◌<◌, ◌==◌, ◌^◌, ◌||◌, ◌↔◌, ◌∙◌, ◌∷◌, ◌≡◌, ◌≢◌, ◌≤◌, ◌⊎◌}
+pub use Rattle.std.proofs.Common.{All, Bool, List, None, Option, Some, ap, append-nil, append_assoc, arith, cond, drop, eq-eqb, false, filter, filter_map, get_or, if◌then◌else◌, inl, inr, is_none, is_some, length, length-append, length-drop, map, nat_le, ne_eqb, not, option_map, refl, replicate, rules, set, slice_get, slice_index, subst, suc, sum_by, sym, take, true, unwrap_or, vec_len, zero, ℕ, [], ◌*◌, ◌++◌, ◌+◌, ◌-◌, ◌/◌, ◌<◌, ◌==◌, ◌^◌, ◌||◌, ◌↔◌, ◌∙◌, ◌∷◌, ◌≡◌, ◌≢◌, ◌≤◌, ◌⊎◌}
 pub use Rattle.std.proofs.Math.Nat.{div-le_self, mul-add, mul-div-le, mul-le-mul_right}
-pub use Rattle.std.proofs.Math.Seq.{drop-append_seam, take-append_seam}
-pub use Rattle.std.proofs.lemmas.Bool.{cases_eq, cases_lt, eq-eqb, le-leb, leb-false, leb-true}
 pub use Rattle.std.proofs.lemmas.Grind.{common_steps, flat_map-append, get_or-set_at}
 pub use Rattle.std.proofs.lemmas.List.{get_or-replicate, get_or-set_other, get_or_default, length-map, length-replicate, length-set, length-take, map-append, map-set}
-pub use Rattle.std.proofs.lemmas.List.Elements.{All-head, All-tail}
-pub use Rattle.std.proofs.lemmas.List.FromFn.{get_or-range_with_len, length-range_with_len}
 pub use Rattle.std.proofs.lemmas.List.Sums.{fold_push, get_or-le-sum_by, sum_by-cons, sum_by_push}
-pub use Rattle.std.proofs.lemmas.Option.{slice_get_cases}
-pub use Rattle.std.specs.List.{flat_map, range_with_len}
 pub use Rattle.std.specs.Option.{IfNone, IfSome, IsSome, option_flatten, option_map_or}
 pub use Rattle.std.specs.Prelude.{Err, IfOk, IsErr, IsFalse, IsTrue, Ok, Result, count_by, slice_index_or}
-pub use Rattle.lot_machine.proofs.Changes.{number-kept}
-pub use Rattle.lot_machine.proofs.CommandsKept.{all-pass}
-pub use Rattle.lot_machine.proofs.CurrencyFlow.{currency-bounded}
+pub use Rattle.lot_machine.proofs.Common.{All-head, All-tail, DropCurrency, Funding, IsSound, NewCurrency, State, Step, active_amount, change_record, command_effect, command_refusal, command_step, currency_or_base, currency_value, draw, event_effect, event_refusal, free_currencies, funding_of, is_bad_processor, is_currency, is_live_status, is_ready, lend_of, live_of, live_value, next_place, opening, placed, ready_threads, slice_get_cases, started, status_of, step, stopped, thread_on, thread_there, thread_value, ticket_in, unless_refused, used_there, value_of, weight_of, with_ticks}
 pub use Rattle.lot_machine.proofs.Idle.{filter-passes, index-holds, is-ready, there-runs}
-pub use Rattle.lot_machine.proofs.OrderKept.{order-sound}
 pub use Rattle.lot_machine.proofs.Queues.{status-other}
-pub use Rattle.lot_machine.proofs.RecordsKept.{found-runs, numbered}
 pub use Rattle.lot_machine.proofs.StepChanges.{By, Console, Keeps, by_event, kept, step-leads}
-pub use Rattle.lot_machine.proofs.StepSizes.{step-grown}
-pub use Rattle.lot_machine.proofs.Sums.{sum-filter}
 pub use Rattle.lot_machine.proofs.Tickets.{at_number-suc, is_currency-is, some-injective, target-of, ticket_in-suc}
-pub use Rattle.lot_machine.proofs.TrapCycles.{at_number-map}
-pub use Rattle.lot_machine.specs.Activity.{active_amount}
-pub use Rattle.lot_machine.specs.Bounds.{IsBetween, IsWithinBounds}
-pub use Rattle.lot_machine.specs.Change.{DropCurrency, NewCurrency}
-pub use Rattle.lot_machine.specs.Commands.{Step, command_effect, command_refusal, command_step, currency_or_base, unless_refused}
-pub use Rattle.lot_machine.specs.Facts.{IsSound, live_value}
-pub use Rattle.lot_machine.specs.Funding.{Funding, is_currency, ticket_in}
-pub use Rattle.lot_machine.specs.Lends.{is_live}
-pub use Rattle.lot_machine.specs.Lottery.{winner}
-pub use Rattle.lot_machine.specs.Numbered.{at_number, numbers, option_any, set_number}
-pub use Rattle.lot_machine.specs.Places.{next_place, placed}
-pub use Rattle.lot_machine.specs.State.{State, change_record, free_currencies, funding_of, is_live_status, is_ready, lend_of, live_of, opening, ready_threads, status_of, thread_on, value_of, weight_of}
-pub use Rattle.lot_machine.specs.Step.{draw, event_effect, event_refusal, is_bad_processor, started, step, stopped, thread_there, used_there}
-pub use Rattle.lot_machine.specs.Traps.{with_ticks}
-pub use Rattle.lot_machine.specs.Value.{currency_value, thread_value}
-pub use Rattle.lot_machine.specs.declared.command.Command.{Command}
-pub use Rattle.lot_machine.specs.declared.command.Command.TheVariants.{MakeCurrency, RemoveCurrency}
-pub use Rattle.lot_machine.specs.declared.drawn.Drawn.{Drawn}
-pub use Rattle.lot_machine.specs.declared.event.Event.{Event}
-pub use Rattle.lot_machine.specs.declared.funding.Lend.{Lend}
-pub use Rattle.lot_machine.specs.declared.record.Record.{Record}
-pub use Rattle.lot_machine.specs.declared.record.Status.{Status}
 pub use Rattle.lot_machine.specs.declared.record.Status.TheVariants.{Asleep, Dead, Queued, Ready, Receiving, Running, Served, Waiting}
-pub use Rattle.lot_machine.specs.declared.refusal.Refusal.{Refusal}
-pub use Rattle.lot_machine.specs.declared.refusal.Refusal.TheVariants.{BadProcessor, NotRunning}
-pub use Rattle.lot_machine.specs.declared.reply.Reply.{Reply}
-pub use Rattle.lot_machine.specs.declared.sizes.Sizes.{Sizes}
-pub use Rattle.lot_machine.specs.declared.ticket.Ticket.{Ticket}
+pub use Rattle.lot_simulation.proofs.Common.{ActorTurn, BadProcessor, Moment, NotRunning, TimedTurn, alarms_after, all_due, cases_eq, cases_lt, clock_after_console, clock_of, clocks_after, clocks_after_console, console_due, cost_of, due_first, earliest, flat_map, following, idle_to, is_idle_draw, is_refusal, le-leb, leb-false, leb-true, moment_after, moment_after_all, next_due, opening_moment, processor_due, processors_due, range_with_len, sooner, step-grown, sum-filter, ticks_in, timed_room, timed_turns, timer_due, total_of, turn_due, turns_from, turns_made, within, woken}
 pub use Rattle.lot_simulation.proofs.OtherTurns.{event-for, event_for, turn-grows}
 pub use Rattle.lot_simulation.proofs.TimedRuns.{due-there, room-small, turns-few}
 pub use Rattle.lot_simulation.proofs.TimesRise.{AreLater, Each, alarms-later, each-due, earliest-one, first-due, sleeper-found}
-pub use Rattle.lot_simulation.specs.Below.{stands_below, worth_of}
-pub use Rattle.lot_simulation.specs.Report.{ActorTurn, ticks_in, total_of, turns_made}
-pub use Rattle.lot_simulation.specs.Script.{Slice}
-pub use Rattle.lot_simulation.specs.Timed.{Moment, TimedTurn, alarms_after, all_due, clock_after_console, clock_of, clocks_after, clocks_after_console, console_due, cost_of, due_first, earliest, following, idle_to, is_idle_draw, is_refusal, moment_after, moment_after_all, next_due, opening_moment, processor_due, processors_due, sooner, timed_room, timed_turns, timer_due, turn_due, turns_from, within, woken}
 pub use Rattle.lot_simulation.specs.TimedReport.{actor_turns, currency_ticks_after, currency_ticks_from, currency_ticks_in, due_after, due_from, life, life_change, live_part, makes, makes_currency, mutex_change, mutex_wait, no_spans, queued, rate_in, ready_after, ready_in, refusals_after, refusals_in, refused_traps_in, reply_change, reply_wait, span_begun, span_ended, tick_parts, ticks_below, time_from}
-pub use Rattle.lot_simulation.specs.World.{Program, TurnAnswer, TurnMade, World, action_of, actor_event, console_turn, event_of_slice, next_name, number_of, opening_world, processor_event, processor_turn, resolved, sleeper_on, slice_on, system_after, system_run, system_turn}
 pub use Rattle.lot_simulation.specs.World.TurnAnswer.{Answered, Ended}
-pub use Rattle.lot_simulation.specs.declared.script.ScriptTrap.{ScriptTrap}
 pub use Rattle.lot_simulation.specs.declared.timed.Clock.{Clock}
 pub use Rattle.lot_simulation.specs.declared.timed.Due.{Due}
 pub use Rattle.lot_simulation.specs.declared.timed.Sleeper.{Sleeper}
 pub use Rattle.lot_simulation.specs.declared.timed.SpanChange.TheVariants.{Anew}
 pub use Rattle.lot_simulation.specs.declared.timed.Spans.{Spans}
-pub use Rattle.lot_graph.specs.Found.{FoundNodes, HasFound}
-pub use Rattle.lot_graph.specs.declared.layout.Layout.{Layout}
-pub use Rattle.lot_program.specs.Programs.{IsProgram}
+pub use Rattle.lot_graph.proofs.Common.{FoundNodes, HasFound, number-kept}
+pub use Rattle.lot_program.proofs.Common.{drop-append_seam, get_or-range_with_len, length-range_with_len, take-append_seam}
+pub use Rattle.lot_engine.proofs.Common.{Command, Drawn, Event, HasLayoutFor, HasPlayed, IsBetween, IsPlayed, IsProgram, IsWithinBounds, Layout, Lend, MakeCurrency, Program, Record, Refusal, RemoveCurrency, Reply, ScriptTrap, Sizes, Slice, Status, Ticket, TurnAnswer, TurnMade, World, action_of, actor_event, all-pass, at_number, at_number-map, console_turn, currency-bounded, event_of_slice, found-runs, is_live, next_name, number_of, numbered, numbers, opening_world, option_any, order-sound, processor_event, processor_turn, resolved, set_number, sleeper_on, slice_on, stands_below, system_after, system_run, system_turn, turn_in, winner, worth_of}
 pub use Rattle.lot_engine.proofs.CountFacts.{turns_made-answered}
 pub use Rattle.lot_engine.proofs.InOrder.{run-in-order}
 pub use Rattle.lot_engine.proofs.PlayingFacts.{played-after, played-more}
 pub use Rattle.lot_engine.proofs.Runs.{system_run-one_more}
 pub use Rattle.lot_engine.proofs.TurnFacts.{count-console, count-processor}
-pub use Rattle.lot_engine.specs.Playing.{HasPlayed, IsPlayed, turn_in}
-pub use Rattle.lot_engine.specs.Searching.{HasLayoutFor}
 pub use Rattle.lot_engine.specs.Seen.{Seen, Setting, after_turn, commands_made, world_of}
 pub use Rattle.lot_engine.specs.Turns.{IsEnded}
 pub use Rattle.lot_playback.specs.Following.{CanFollowTurn, FollowsTurn, HasDuesBefore, IsOpened, IsTold, ToldTurn}

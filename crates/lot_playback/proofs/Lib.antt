@@ -14,3 +14,4 @@ pub mod MadeCurrencies
 pub mod DueFacts
 pub mod TickFacts
 pub mod ValueFacts
+pub mod Lemmas

@@ -1,20 +1,6 @@
 -- The clients of a server are released, one after another.
-use Rattle.std.proofs.Common.{◌≡◌, ◌∙◌, ℕ, ◌-◌, ◌<◌, ◌≤◌, ◌⊎◌, arith, inl, inr, Option, Some, None, List, [], ◌∷◌, ◌++◌, length, drop, refl, sym, ap, append_assoc, length-set, unwrap_or}
-use Rattle.std.proofs.lemmas.List.{append-nil}
-use Rattle.lot_machine.specs.declared.funding.Node.{Node}
-use Rattle.lot_machine.specs.declared.record.Record.{Record}
-use Rattle.lot_machine.specs.Numbered.{at_number, set_number}
-use Rattle.lot_machine.specs.Ports.{clients_of, first_client}
-use Rattle.lot_machine.specs.State.{change_record, change_each}
-use Rattle.lot_machine.specs.Kill.{released}
-use Rattle.lot_machine.proofs.Changes.{number-kept}
-use Rattle.lot_machine.proofs.Killed.{each-append, each-between}
-use Rattle.lot_machine.proofs.StepSizes.{each-length}
-use Rattle.lot_value.proofs.Lending.{number-some}
-use Rattle.lot_queues.specs.QueueLists.{QueueLists, IsThere}
-use Rattle.lot_queues.proofs.Callers.{first-none, first-some, number-set, number-again}
-use Rattle.lot_threads.specs.Threaded.{Threaded, IsStaleIn, MakesStaleIn, with_records}
-use Rattle.lot_threads.proofs.TwoChanges.{makes-each}
+use Rattle.lot_ports.proofs.Common.{IsStaleIn, IsThere, List, MakesStaleIn, Node, None, Option, QueueLists, Record, Some, Threaded, ap, append-nil, append_assoc, arith, at_number, change_each, change_record, clients_of, drop, each-append, each-between, each-length, first-none, first-some, first_client, inl, inr, length, length-set, makes-each, number-again, number-kept, number-some, refl, released, set_number, sym, unwrap_or, with_records, ℕ, [], ◌++◌, ◌-◌, ◌<◌, ◌∙◌, ◌∷◌, ◌≡◌, ◌≤◌, ◌⊎◌}
+use Rattle.lot_queues.proofs.Callers.{number-set}
 
 -- some clients are released, and the others are left
 pub record IsReleased (a : Threaded) (q : QueueLists) (server : ℕ) (v : Threaded) (now : QueueLists) : Type 0 where

@@ -1,22 +1,5 @@
 -- A reply and then a receipt: what the receipt rests on, and what both make stale.
-use Rattle.std.proofs.Common.{◌≡◌, ◌∙◌, ℕ, ◌⊎◌, inl, inr, suc, ◌-◌, Option, Some, None, List, [], ◌∷◌, Contains, drop, option_map, slice_get, unwrap_or, ap, sym, refl, subst}
-use Rattle.lot_machine.specs.declared.record.Record.{Record}
-use Rattle.lot_machine.specs.declared.record.Status.TheVariants.{Served}
-use Rattle.lot_machine.specs.Funding.{weighed_of}
-use Rattle.lot_machine.specs.Lends.{IsLive}
-use Rattle.lot_machine.specs.Numbered.{at_number, set_number}
-use Rattle.lot_machine.specs.Ports.{clients_of, first_client, port_at, receive, reply}
-use Rattle.lot_machine.specs.State.{Port, QueuedCall, change_record, is_live_status, live_in}
-use Rattle.lot_machine.proofs.Changes.{number-set, number-there}
-use Rattle.lot_machine.proofs.EachOnce.{contains-at}
-use Rattle.lot_machine.proofs.TrapCycles.{at_number-map}
-use Rattle.lot_machine.proofs.TwoSteps.{edges-between, live-between}
-use Rattle.lot_queues.specs.QueueLists.{QueueLists, IsNowhere, callers_at}
-use Rattle.lot_queues.proofs.Elements.{contains-drop}
-use Rattle.lot_threads.specs.Threaded.{Threaded, MakesStaleIn, funding_in, with_records}
-use Rattle.lot_threads.proofs.Last.{makes-last}
-use Rattle.lot_threads.proofs.TwoChanges.{makes-both-in}
-use Rattle.lot_ports.specs.Traps.{with_ports}
+use Rattle.lot_ports.proofs.Common.{Contains, IsLive, IsNowhere, List, MakesStaleIn, None, Option, Port, QueueLists, QueuedCall, Record, Served, Some, Threaded, ap, at_number, at_number-map, callers_at, change_record, clients_of, contains-at, contains-drop, drop, edges-between, first_client, funding_in, inl, inr, is_live_status, live-between, live_in, makes-both-in, makes-last, number-set, number-there, option_map, port_at, receive, refl, reply, set_number, slice_get, subst, suc, sym, unwrap_or, weighed_of, with_ports, with_records, ℕ, [], ◌-◌, ◌∙◌, ◌∷◌, ◌≡◌, ◌⊎◌}
 use Rattle.lot_ports.proofs.Callers.{caller-first}
 
 -- a change of another thread's record

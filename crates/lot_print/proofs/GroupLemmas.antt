@@ -1,10 +1,5 @@
 -- The first of the groups of a list, and those after it.
-use Rattle.std.proofs.Common.{◌≡◌, ◌<◌, ◌≤◌, ◌-◌, ℕ, zero, suc, min, List, [], ◌∷◌, ◌++◌, length, take, drop, refl, sym, ap, ◌∙◌, arith}
-use Rattle.std.specs.Prelude.{⊤, All}
-use Rattle.std.specs.List.{flat_map}
-use Rattle.std.proofs.lemmas.List.{drop_min, length-drop, length-take, take-append-drop, take_min}
-use Rattle.std.proofs.lemmas.List.Elements.{All-head, All-tail}
-use Rattle.lot_simulation.specs.Report.{with_first, groups_after, groups_of, runs_in, runs_line, runs_lines, schedule_line, schedule_lines}
+use Rattle.lot_print.proofs.Common.{All, All-head, All-tail, List, ap, arith, drop, drop_min, flat_map, groups_after, groups_of, length, length-drop, length-take, min, refl, runs_in, runs_line, runs_lines, schedule_line, schedule_lines, suc, sym, take, take-append-drop, take_min, with_first, zero, ℕ, [], ⊤, ◌++◌, ◌-◌, ◌<◌, ◌∙◌, ◌∷◌, ◌≡◌, ◌≤◌}
 
 groups_after-first : {A : Type 0} (s room : ℕ) (x : A) (xs : List A)
     → groups_after (suc s) (suc room) (x ∷ xs) ≡ take (suc room) (x ∷ xs) ∷ groups_of (suc s) (drop (suc room) (x ∷ xs))

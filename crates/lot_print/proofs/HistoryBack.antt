@@ -1,13 +1,5 @@
 -- Histories that are printed, read again.
-use Rattle.std.proofs.Common.{◌≡◌, ◌≤◌, ◌==◌, ℕ, Bool, true, false, List, [], ◌∷◌, ◌++◌, length, refl, sym, ap, ◌∙◌, arith, if◌then◌else◌}
-use Rattle.std.specs.Prelude.{◌||◌, IsTrue}
-use Rattle.std.specs.List.{flat_map}
-use Rattle.std.proofs.lemmas.Bool.{eqb-true}
-use Rattle.std.proofs.lemmas.Grind.{flat_map-append}
-use Rattle.lot_simulation.specs.Reading.{Reading}
-use Rattle.lot_simulation.specs.Grammar.{ActorRun, actors_of}
-use Rattle.lot_simulation.specs.Report.{groups_of, history_lines, runs_in, runs_line, runs_lines, schedule_line, schedule_lines}
-use Rattle.lot_print.specs.Readback.{HasRoom, IsReadAs}
+use Rattle.lot_print.proofs.Common.{ActorRun, Bool, HasRoom, IsReadAs, IsTrue, List, Reading, actors_of, ap, arith, eqb-true, false, flat_map, flat_map-append, groups_of, history_lines, if◌then◌else◌, length, refl, runs_in, runs_line, runs_lines, schedule_line, schedule_lines, sym, true, ℕ, [], ◌++◌, ◌==◌, ◌||◌, ◌∙◌, ◌∷◌, ◌≡◌, ◌≤◌}
 use Rattle.lot_print.proofs.GroupLemmas.{Each-from_All, IsGroup, groups_of-each, groups_of-joined}
 use Rattle.lot_print.proofs.ReadBack.{Shown-schedule, read-blocks, read-schedule, schedule_line-text, schedule_text}
 use Rattle.lot_print.proofs.RunsBack.{IsRun, Each-readable, Shown-runs, actors_of-runs_in, read-runs, runs_line-text, runs_text}

@@ -1,3 +1,4 @@
+pub mod Common
 pub mod GroupLemmas
 pub mod HistoryBack
 pub mod NameFacts
@@ -9,3 +10,4 @@ pub mod ReadBack
 pub mod RunLemmas
 pub mod RunsBack
 pub mod WritingFacts
+pub mod Lemmas

@@ -1,8 +1,5 @@
 -- Lines that wait to be written.
-use Rattle.std.proofs.Common.{◌≡◌, ℕ, Option, List, [], ◌++◌, sym, subst, ◌∙◌, ap, append_assoc, append-nil}
-use Rattle.std.specs.Io.KnownBytes.{Appends}
-use Rattle.lot_io.specs.Writing.{Begins, IsPut}
-use Rattle.lot_io.proofs.WritingFacts.{appends-both, begins-after, begins-front}
+use Rattle.lot_print.proofs.Common.{Appends, Begins, IsPut, List, Option, ap, append-nil, append_assoc, appends-both, begins-after, begins-front, subst, sym, ℕ, [], ◌++◌, ◌∙◌, ◌≡◌}
 
 -- if nothing waited before, and what waits is written, all is
 pub put-all : (old mid new : Option (List ℕ)) (waits text : List ℕ) → IsPut old mid [] waits text → Appends mid new waits → Appends old new text

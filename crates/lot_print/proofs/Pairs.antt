@@ -1,9 +1,5 @@
 -- The table of pairs of digits.
-use Rattle.std.proofs.Common.{◌≡◌, ◌∙◌, ℕ, zero, suc, ◌+◌, ◌-◌, ◌*◌, ◌/◌, ◌%◌, ◌^◌, ◌<◌, ◌≤◌, Bool, true, ◌&&◌, T, List, ◌++◌, eqb, get_or, inl, inr, ap, sym, append_assoc, arith, eq-zero-or-pos, eqb→eq}
-use Rattle.std.specs.Fmt.{decimal}
-use Rattle.itoa.proofs.Decimal.{pair, decimal_pair, decimal_four}
-use lib.Ieee.Fits.{and_l, and_r}
-use Rattle.lot_print.specs.declared.line.TheConstants.{PAIRS}
+use Rattle.lot_print.proofs.Common.{Bool, List, PAIRS, T, and_l, and_r, ap, append_assoc, arith, decimal, decimal_four, decimal_pair, eq-zero-or-pos, eqb, eqb→eq, get_or, inl, inr, pair, suc, sym, true, zero, ℕ, ◌%◌, ◌&&◌, ◌*◌, ◌++◌, ◌+◌, ◌-◌, ◌/◌, ◌<◌, ◌^◌, ◌∙◌, ◌≡◌, ◌≤◌}
 
 abbrev are_pairs : ℕ → Bool
 are_pairs zero = true

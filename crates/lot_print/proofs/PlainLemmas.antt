@@ -1,16 +1,5 @@
 -- Words and lines that are printed, read again.
-use Rattle.std.proofs.Common.{◌≡◌, ◌<◌, ◌≤◌, ◌-◌, ◌^◌, ◌==◌, ℕ, zero, suc, Bool, true, false, not, ◌&&◌, ◌||◌, Some, List, [], ◌∷◌, ◌++◌, length, take, filter, get_or, slice_index, refl, ap, ◌∙◌, arith, append-nil, le-leb}
-use Rattle.std.specs.Prelude.{⊤, nat_lt, nat_le}
-use Rattle.std.specs.Char.{is_ascii_digit}
-use Rattle.std.specs.Fmt.{decimal}
-use Rattle.std.specs.List.{flat_map, list_all, prefix_len, slice_split}
-use Rattle.std.specs.Str.Parse.{AllDigits, digits_value}
-use Rattle.std.proofs.Math.Seq.{take-append_seam}
-use Rattle.std.proofs.lemmas.Bool.{eqb-false, lt-ltb, ne_eqb}
-use Rattle.std.proofs.lemmas.Fmt.{decimal_is_IsNumeral, decimal_digit, first_decimal}
-use Rattle.std.proofs.lemmas.Str.Parse.{digit_from_value}
-use Rattle.lot_simulation.specs.declared.separators.Separators.TheVariants.{Spaces}
-use Rattle.lot_simulation.specs.Lines.{lines_of, without_end, tokens_of, is_printable, number_of}
+use Rattle.lot_print.proofs.Common.{AllDigits, Bool, List, Some, Spaces, ap, append-nil, arith, decimal, decimal_digit, decimal_is_IsNumeral, digit_from_value, digits_value, eqb-false, false, filter, first_decimal, flat_map, get_or, is_ascii_digit, is_printable, le-leb, length, lines_of, list_all, lt-ltb, nat_le, nat_lt, ne_eqb, not, number_of, prefix_len, refl, slice_index, slice_split, suc, take, take-append_seam, tokens_of, true, without_end, zero, ℕ, [], ⊤, ◌&&◌, ◌++◌, ◌-◌, ◌<◌, ◌==◌, ◌^◌, ◌||◌, ◌∙◌, ◌∷◌, ◌≡◌, ◌≤◌}
 
 -- bytes that are no space, and print
 abbrev pub Plain : List ℕ → Type 0

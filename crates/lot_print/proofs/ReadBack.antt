@@ -1,25 +1,12 @@
 -- Lines that are printed of a history, read again.
-use Rattle.std.proofs.Common.{◌≡◌, ◌<◌, ◌≤◌, ◌+◌, ◌*◌, ◌^◌, ℕ, suc, false, true, Some, None, Result, Ok, List, [], ◌∷◌, ◌++◌, length, map, refl, ap, ◌∙◌, arith, append_assoc, append-nil, length-append}
-use Rattle.std.specs.Prelude.{codes}
-use Rattle.std.specs.Fmt.{decimal}
-use Rattle.std.specs.List.{flat_map}
-use Rattle.std.proofs.lemmas.Bool.{le-ltb}
-use Rattle.std.proofs.lemmas.Fmt.{length-decimal-le}
-use Rattle.lot_simulation.specs.declared.input.InputRefusal.{InputRefusal}
-use Rattle.lot_simulation.specs.declared.input.BodyWord.{BodyWord}
+use Rattle.lot_print.proofs.Common.{BodyWord, InputRefusal, List, None, Ok, Reading, Result, Some, Spaces, actor_below, actor_text, ap, append-nil, append_assoc, arith, body_after_header, body_place, body_words, codes, decimal, each, false, flat_map, header_words, is_comment, is_printable, le-ltb, length, length-append, length-decimal-le, lines_of, map, read_line, read_lines, refl, schedule_line, suc, tokens_of, true, word_in, ℕ, [], ◌*◌, ◌++◌, ◌+◌, ◌<◌, ◌>>=◌, ◌^◌, ◌∙◌, ◌∷◌, ◌≡◌, ◌≤◌}
 use Rattle.lot_simulation.specs.declared.input.BodyWord.TheVariants as body
-use Rattle.lot_simulation.specs.declared.separators.Separators.TheVariants.{Spaces}
-use Rattle.lot_simulation.specs.Lines.{lines_of, tokens_of, is_comment, is_printable}
-use Rattle.lot_simulation.specs.Words.{word_in, header_words, body_words}
-use Rattle.lot_simulation.specs.Reading.{Reading, ◌>>=◌, actor_below, each}
-use Rattle.lot_simulation.specs.Grammar.{body_after_header, read_line, read_lines}
-use Rattle.lot_simulation.specs.Report.{actor_text, schedule_line}
 use Rattle.lot_print.proofs.GroupLemmas.{Each, IsGroup}
 use Rattle.lot_print.proofs.PlainLemmas.{Shown, Words, spaced, Shown-append, Shown-spaced, is_printable-shown, lines_of-line, without_end-line, tokens_of-words, some-decimal, Plain-decimal, number_of-decimal}
 
 -- what was read, and a line of these actors more
 abbrev pub scheduled : Reading → List ℕ → Reading
-scheduled r actors = record r { schedule = r.schedule ++ actors; place = 10 }
+scheduled r actors = record r { schedule = r.schedule ++ actors; place = body_place }
 
 -- ---- one line
 

@@ -1,9 +1,5 @@
 -- The first of the runs of a history, and those after it.
-use Rattle.std.proofs.Common.{◌≡◌, ◌<◌, ◌+◌, ◌-◌, ◌==◌, ℕ, suc, Bool, true, false, List, [], ◌∷◌, ◌++◌, length, take, drop, refl, ◌∙◌, arith}
-use Rattle.std.specs.List.{flat_map, prefix_len}
-use Rattle.std.proofs.lemmas.Bool.{eqb-true}
-use Rattle.lot_simulation.specs.Grammar.{ActorRun}
-use Rattle.lot_simulation.specs.Report.{run_before, run_text, runs_in}
+use Rattle.lot_print.proofs.Common.{ActorRun, Bool, List, arith, drop, eqb-true, false, flat_map, length, prefix_len, refl, run_before, run_text, runs_in, suc, take, true, ℕ, [], ◌++◌, ◌+◌, ◌-◌, ◌<◌, ◌==◌, ◌∙◌, ◌∷◌, ◌≡◌}
 
 -- a history's first run is as long as its first actor has turns at the front
 pub runs_in-first : (a : ℕ) (bs : List ℕ) (n : ℕ) → n ≡ prefix_len (λ x. x == a) bs

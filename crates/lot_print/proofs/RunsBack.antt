@@ -1,15 +1,6 @@
 -- Lines of runs, read again.
-use Rattle.std.proofs.Common.{◌≡◌, ◌<◌, ◌≤◌, ◌+◌, ◌*◌, ◌%◌, ◌^◌, ◌==◌, ℕ, suc, Bool, false, true, Some, None, Ok, List, [], ◌∷◌, ◌++◌, length, refl, ap, ◌∙◌, arith, append_assoc, length-append}
-use Rattle.std.specs.Prelude.{codes, sum_by}
-use Rattle.std.specs.Fmt.{decimal}
-use Rattle.std.specs.List.{flat_map}
-use Rattle.std.proofs.lemmas.Bool.{eqb-true, le-ltb}
-use Rattle.std.proofs.lemmas.Fmt.{length-decimal-le}
+use Rattle.lot_print.proofs.Common.{ActorRun, Bool, List, None, Ok, Reading, Some, actors_of, ap, append_assoc, arith, body_after_header, codes, decimal, each_pair, eqb-true, false, flat_map, le-ltb, length, length-actors_of, length-append, length-decimal-le, read_line, refl, run_before, run_of, run_text, runs_in, runs_line, suc, sum_by, true, ℕ, [], ◌%◌, ◌*◌, ◌++◌, ◌+◌, ◌<◌, ◌==◌, ◌^◌, ◌∙◌, ◌∷◌, ◌≡◌, ◌≤◌}
 use Rattle.lot_simulation.specs.declared.input.BodyWord.TheVariants as body
-use Rattle.lot_simulation.specs.Reading.{Reading, each_pair}
-use Rattle.lot_simulation.specs.Grammar.{ActorRun, actors_of, body_after_header, read_line, run_of}
-use Rattle.lot_simulation.specs.Report.{run_before, run_text, runs_in, runs_line}
-use Rattle.lot_simulation.proofs.ActorRuns.{length-actors_of}
 use Rattle.lot_print.proofs.GroupLemmas.{Each, IsGroup}
 use Rattle.lot_print.proofs.PlainLemmas.{Shown, Words, spaced, Shown-append, Shown-spaced, is_printable-shown, tokens_of-words, some-decimal, Plain-decimal, number_of-decimal}
 use Rattle.lot_print.proofs.ReadBack.{AreActors, read_line-words, scheduled}

@@ -1,8 +1,5 @@
 -- What is written in parts.
-use Rattle.std.proofs.Common.{◌≡◌, ℕ, Option, List, [], ◌++◌, sym, subst, ◌∙◌, ap, append_assoc}
-use Rattle.std.specs.Io.KnownBytes.{Appends}
-use Rattle.lot_io.specs.Writing.{Begins}
-use Rattle.lot_io.proofs.WritingFacts.{appends-both, begins-after, begins-front}
+use Rattle.lot_print.proofs.Common.{Appends, Begins, List, Option, ap, append_assoc, appends-both, begins-after, begins-front, subst, sym, ℕ, [], ◌++◌, ◌∙◌, ◌≡◌}
 
 -- a line of a text, a number and what follows
 pub line-is : (none first line text number rest : List ℕ) → none ≡ [] → first ≡ none ++ (text ++ number) → line ≡ first ++ rest → line ≡ text ++ (number ++ rest)

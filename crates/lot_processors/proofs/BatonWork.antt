@@ -1,20 +1,6 @@
 -- What a seat has made, one call after another.
-use Rattle.std.proofs.Common.{◌≡◌, refl, ℕ, ◌+◌, ◌<◌, ◌∷◌, [], List, length, slice_index_or, Option, Some, None, inl, inr, sym, ◌∙◌, ap, subst, arith}
-use Rattle.lot_simulation.specs.World.{Program}
-use Rattle.lot_script.specs.Slices.{Parts}
-use Rattle.lot_engine.specs.declared.fault.TurnFault.{TurnFault}
-use Rattle.lot_engine.specs.declared.fault.TurnFault.TheVariants.{Stale}
-use Rattle.lot_engine.specs.declared.turn.Answer.{Answer}
-use Rattle.lot_engine.specs.declared.turn.Work.{Work}
-use Rattle.lot_engine.specs.Fitting.{IsStale}
-use Rattle.lot_engine.specs.Seen.{Seen}
-use Rattle.lot_engine.specs.Turns.{Faults, IsWorkOf, Matches}
-use Rattle.lot_station.specs.BatonSeats.{Seat, IsSameSeat, Looks, Turns}
-use Rattle.lot_station.specs.BatonViews.{Extends}
-use Rattle.lot_station.specs.Settings.{IsLegalIn, turns_by}
-use Rattle.lot_station.proofs.BatonShares.{starts_self, starts_more, starts_trans}
-use Rattle.lot_processors.specs.BatonWorkers.{AllMade, Continues, FirstStops, HasMade, HasMadeAll, HasStopped, HasWorked, IsFirstFault, StopsTurn}
-use Rattle.lot_processors.specs.Workers.{EachSeat, IsLastWork, turns_for}
+use Rattle.lot_processors.proofs.Common.{Answer, Continues, EachSeat, Extends, Faults, HasMade, HasMadeAll, HasStopped, HasWorked, IsFirstFault, IsLastWork, IsLegalIn, IsSameSeat, IsStale, IsWorkOf, List, Looks, Matches, None, Option, Parts, Program, Seat, Seen, Some, Stale, TurnFault, Turns, Work, ap, arith, inl, inr, length, refl, slice_index_or, starts_more, starts_self, starts_trans, subst, sym, turns_by, turns_for, ℕ, [], ◌+◌, ◌<◌, ◌∙◌, ◌∷◌, ◌≡◌}
+use Rattle.lot_processors.specs.BatonWorkers.{AllMade, FirstStops, StopsTurn}
 use Rattle.lot_processors.proofs.SeatWork.{no-work, stale-carries}
 use Rattle.lot_processors.proofs.SeatsWork as seats
 

@@ -1,17 +1,5 @@
 -- What the seats of a free run say of its history.
-use Rattle.std.proofs.Common.{◌≡◌, ℕ, ◌+◌, ◌<◌, ◌≤◌, ◌==◌, List, [], Option, Some, None, inl, inr, length, count_by, slice_index_or, refl, sym, ◌∙◌, ap, subst, arith}
-use Rattle.std.specs.List.{slice_get}
-use Rattle.std.proofs.lemmas.Option.{get_or_from_slice_get, slice_get-get_or, slice_get_within}
-use Rattle.lot_simulation.specs.World.{Program}
-use Rattle.lot_engine.specs.declared.fault.TurnFault.{TurnFault}
-use Rattle.lot_engine.specs.declared.fault.TurnFault.TheVariants.{Stale}
-use Rattle.lot_engine.specs.declared.turn.Work.{Work}
-use Rattle.lot_engine.specs.Fitting.{FitsIn, IsStale}
-use Rattle.lot_engine.specs.Seen.{Setting, Seen}
-use Rattle.lot_engine.specs.Turns.{Faults, IsWorkOf, Matches}
-use Rattle.lot_station.specs.Holders.{Holder, AreDealt, CountsAgree, InOrder, dealt}
-use Rattle.lot_station.specs.Settings.{AtSome, IsLegalIn, times_in}
-use Rattle.lot_processors.specs.Workers.{AllMade, FirstStops, HasOthers, IsStopped, StopsTurn, free_setting, turns_for}
+use Rattle.lot_processors.proofs.Common.{AllMade, AreDealt, AtSome, CountsAgree, Faults, FirstStops, FitsIn, HasOthers, Holder, InOrder, IsLegalIn, IsStale, IsStopped, IsWorkOf, List, Matches, None, Option, Program, Seen, Setting, Some, Stale, StopsTurn, TurnFault, Work, ap, arith, count_by, dealt, free_setting, get_or_from_slice_get, inl, inr, length, refl, slice_get, slice_get-get_or, slice_get_within, slice_index_or, subst, sym, times_in, turns_for, ℕ, [], ◌+◌, ◌<◌, ◌==◌, ◌∙◌, ◌≡◌, ◌≤◌}
 
 -- what is added to nothing
 from_nothing : (m n k : ℕ) → m ≡ n + k → n ≡ 0 → m ≡ k

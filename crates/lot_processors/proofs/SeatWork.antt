@@ -1,20 +1,6 @@
 -- What a seat of a station has made, one call after another.
-use Rattle.std.proofs.Common.{◌≡◌, refl, ℕ, ◌+◌, ◌<◌, ◌∷◌, ◌++◌, [], List, length, slice_index_or, Option, Some, None, inl, inr, sym, ◌∙◌, ap, ap₂, subst, arith, All, length-append}
-use Rattle.std.proofs.lemmas.List.Elements.{All-append, All-push}
-use Rattle.std.proofs.lemmas.List.Sums.{sum_by-append, sum_by_push}
-use Rattle.lot_simulation.specs.Report.{quanta_in, ticks_in}
-use Rattle.lot_simulation.specs.World.{Program}
-use Rattle.lot_script.specs.Slices.{Parts}
-use Rattle.lot_engine.specs.declared.fault.TurnFault.{TurnFault}
-use Rattle.lot_engine.specs.declared.fault.TurnFault.TheVariants.{Stale}
-use Rattle.lot_engine.specs.declared.turn.Answer.{Answer}
-use Rattle.lot_engine.specs.declared.turn.Work.{Work}
-use Rattle.lot_engine.specs.Fitting.{IsStale}
-use Rattle.lot_engine.specs.Seen.{Seen, Setting}
-use Rattle.lot_engine.specs.Turns.{Answers, Faults, Goes, IsWorkOf, Matches}
-use Rattle.lot_station.specs.Holders.{Holder, with_turn}
-use Rattle.lot_station.specs.Settings.{AtSome}
-use Rattle.lot_processors.specs.Workers.{AllMade, EachSeat, FirstStops, HasMade, HasMadeAll, HasStopped, HasWorked, IsFirstFault, IsLastWork, IsReply, StopsTurn, turns_for}
+use Rattle.lot_processors.proofs.Common.{All, All-append, All-push, AllMade, Answer, Answers, AtSome, EachSeat, Faults, FirstStops, Goes, Holder, IsLastWork, IsReply, IsStale, IsWorkOf, List, Matches, None, Option, Parts, Program, Seen, Setting, Some, Stale, StopsTurn, TurnFault, Work, ap, ap₂, arith, inl, inr, length, length-append, quanta_in, refl, slice_index_or, subst, sum_by-append, sum_by_push, sym, ticks_in, turns_for, with_turn, ℕ, [], ◌++◌, ◌+◌, ◌<◌, ◌∙◌, ◌∷◌, ◌≡◌}
+use Rattle.lot_processors.specs.Workers.{HasMade, HasMadeAll, HasStopped, HasWorked, IsFirstFault}
 use Rattle.lot_processors.proofs.SeatsWork as seats
 
 -- a fault carries one work

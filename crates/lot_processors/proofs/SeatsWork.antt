@@ -1,7 +1,5 @@
 -- What the workers of all seats have done, and then the first fault that one keeps.
-use Rattle.std.proofs.Common.{◌≡◌, ◌⊎◌, ℕ, ◌<◌, ap, arith, List, Option, Some, None, is_some, true≢false, inl, inr, length, slice_index_or, sym, ◌∙◌, subst}
-use Rattle.lot_engine.specs.declared.fault.TurnFault.{TurnFault}
-use Rattle.lot_processors.specs.Workers.{EachSeat}
+use Rattle.lot_processors.proofs.Common.{EachSeat, List, None, Option, Some, TurnFault, ap, arith, inl, inr, is_some, length, slice_index_or, subst, sym, true≢false, ℕ, ◌<◌, ◌∙◌, ◌≡◌, ◌⊎◌}
 
 -- Seats that may keep a fault: one that has made all keeps none, and one that was stopped is still that if its fault is
 -- taken out.

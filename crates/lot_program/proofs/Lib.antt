@@ -1,2 +1,4 @@
+pub mod Common
 pub mod PackedLemmas
 pub mod SeedLemmas
+pub mod Lemmas

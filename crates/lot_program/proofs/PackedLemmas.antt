@@ -1,21 +1,12 @@
 -- A pool that grows keeps the commands whose names lie within it.
-use Rattle.std.proofs.Common.{◌≡◌, ℕ, ◌≤◌, List, [], ◌∷◌, ◌++◌, All, length, map, slice_index_or, take, drop, ap, sym, ◌∙◌, refl, arith}
-use Rattle.std.proofs.lemmas.List.{take-append-le, drop-append-le, append_assoc, append-nil, length-append, length-drop, map-append}
-use Rattle.std.proofs.lemmas.List.Elements.{All-tail}
-use Rattle.std.proofs.Math.Seq.{drop-append_seam, take-append_seam}
-use Rattle.lot_machine.specs.declared.command.Command.{Command}
+use Rattle.lot_program.proofs.Common.{All, All-tail, Command, Extends, IsCommandIn, IsNameIn, IsReferenceIn, IsTargetIn, List, PackedCommand, PackedName, PackedReference, PackedTarget, ap, append-nil, append_assoc, arith, command_in, currency_in, drop, drop-append-le, drop-append_seam, length, length-append, length-drop, map, map-append, name_in, refl, slice_index_or, sym, take, take-append-le, take-append_seam, target_in, thread_in, ℕ, [], ◌++◌, ◌∙◌, ◌∷◌, ◌≡◌, ◌≤◌}
 use Rattle.lot_machine.specs.declared.command.Command.TheVariants as command
 use Rattle.lot_machine.specs.declared.reference.CurrencyRef.TheVariants as currency_ref
 use Rattle.lot_machine.specs.declared.reference.ThreadRef.TheVariants as thread_ref
 use Rattle.lot_machine.specs.declared.reference.TargetRef.TheVariants as target_ref
-use Rattle.lot_program.specs.declared.packed.PackedName.{PackedName}
-use Rattle.lot_program.specs.declared.packed.PackedReference.{PackedReference}
 use Rattle.lot_program.specs.declared.packed.PackedReference.TheVariants as reference
-use Rattle.lot_program.specs.declared.packed.PackedTarget.{PackedTarget}
 use Rattle.lot_program.specs.declared.packed.PackedTarget.TheVariants as target
-use Rattle.lot_program.specs.declared.packed.PackedCommand.{PackedCommand}
 use Rattle.lot_program.specs.declared.packed.PackedCommand.TheVariants as packed
-use Rattle.lot_program.specs.Packed.{Extends, IsNameIn, name_in, IsReferenceIn, currency_in, thread_in, IsTargetIn, target_in, IsCommandIn, command_in}
 
 -- ---- pools
 

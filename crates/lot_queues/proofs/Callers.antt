@@ -1,16 +1,5 @@
 -- What a caller of `Queues` rests on: lemmas over variables.
-use Rattle.std.proofs.Common.{◌≡◌, ℕ, zero, suc, ◌-◌, ◌||◌, true, false, IsTrue, Option, Some, None, List, [], ◌∷◌, Contains, length, map, drop, get_or, ap, sym, ◌∙◌, refl, arith, set, slice_get, unwrap_or}
-use Rattle.std.proofs.lemmas.List.{get_or-set_same}
-use Rattle.std.proofs.lemmas.Option.{slice_get_within, get_or_from_slice_get, slice_get_read, unwrap_or-slice_get}
-use Rattle.lot_machine.specs.declared.record.Record.{Record}
-use Rattle.lot_machine.specs.declared.record.Status.{Status}
-use Rattle.lot_machine.specs.declared.record.Status.TheVariants.{Running, Receiving, Queued, Served, Waiting}
-use Rattle.lot_machine.specs.Numbered.{at_number, set_number}
-use Rattle.lot_machine.specs.Order.{IsQueue, HasQueues}
-use Rattle.lot_machine.specs.State.{Port, Mutex, QueuedCall, is_live_status, is_dead, status_of}
-use Rattle.lot_machine.specs.Mutexes.{mutex_at}
-use Rattle.lot_machine.proofs.Tickets.{at_number-suc, some-injective}
-use Rattle.lot_queues.specs.QueueLists.{QueueLists, IsThere, IsNowhere, IsWaiter, with_waiters, with_owner}
+use Rattle.lot_queues.proofs.Common.{Contains, HasQueues, IsNowhere, IsQueue, IsThere, IsTrue, IsWaiter, List, Mutex, None, Option, Port, QueueLists, Queued, QueuedCall, Receiving, Record, Running, Served, Some, Status, Waiting, ap, arith, at_number, at_number-suc, drop, false, get_or, get_or-set_same, get_or_from_slice_get, is_dead, is_live_status, length, map, mutex_at, refl, set, set_number, slice_get, slice_get_read, slice_get_within, some-injective, status_of, suc, sym, true, unwrap_or, unwrap_or-slice_get, with_owner, with_waiters, zero, ℕ, [], ◌-◌, ◌||◌, ◌∙◌, ◌∷◌, ◌≡◌}
 use Rattle.lot_queues.proofs.Elements.{contains-nothing}
 
 -- ---- the first of a list

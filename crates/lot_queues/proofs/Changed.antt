@@ -1,12 +1,6 @@
 -- What becomes of the queues if one of the lists changes.
-use Rattle.std.proofs.Common.{◌≡◌, ℕ, ◌+◌, ◌-◌, ◌<◌, ◌≤◌, ◌⊎◌, inl, inr, Option, List, [], Contains, length, map, set, ap, ap₂, sym, ◌∙◌, refl, subst, arith, length-set, get_or-set_other}
-use Rattle.std.proofs.lemmas.Bool.{cases_eq}
-use Rattle.std.proofs.lemmas.List.{get_or-set_same}
-use Rattle.lot_machine.specs.Numbered.{set_number}
-use Rattle.lot_machine.specs.State.{Port, Mutex, QueuedCall}
-use Rattle.lot_lists.specs.NodeLists.{NodeLists, nodes_of, IsFree, IsConsistent}
-use Rattle.lot_queues.specs.QueueLists.{QueueLists, with_calls, with_receivers, with_waiters}
-use Rattle.lot_queues.specs.Fields.{Fields, seen, IsLaidOut, clients_in, port_in, mutex_in, calls_list, receivers_list, waiters_list, call_of, relisted}
+use Rattle.lot_queues.proofs.Common.{Contains, Fields, IsConsistent, IsFree, IsLaidOut, List, Mutex, NodeLists, Option, Port, QueueLists, QueuedCall, ap, ap₂, arith, call_of, calls_list, cases_eq, clients_in, get_or-set_other, get_or-set_same, inl, inr, length, length-set, map, mutex_in, nodes_of, port_in, receivers_list, refl, relisted, set, set_number, subst, sym, waiters_list, with_calls, with_receivers, with_waiters, ℕ, [], ◌+◌, ◌-◌, ◌<◌, ◌∙◌, ◌≡◌, ◌≤◌, ◌⊎◌}
+use Rattle.lot_queues.specs.Fields.{seen}
 use Rattle.lot_queues.proofs.Elements.{calls-kept}
 use Rattle.lot_queues.proofs.Tables.{table, table-same, table-set}
 use Rattle.lot_queues.proofs.Nowhere.{port-at, mutex-at}

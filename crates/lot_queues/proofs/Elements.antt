@@ -1,11 +1,6 @@
 -- What a list of nodes contains, and the list of their threads.
-use Rattle.std.proofs.Common.{◌≡◌, ℕ, zero, suc, ◌+◌, ◌-◌, ◌<◌, ◌⊎◌, inl, inr, List, [], ◌∷◌, ◌++◌, Contains, length, get_or, set, drop, take, map, ap, ap₂, sym, ◌∙◌, refl, subst, arith, get_or-set_other}
-use Rattle.std.specs.List.{remove}
-use Rattle.std.proofs.lemmas.List.{take-append-drop, get_or-map, length-map, get_or_default}
-use Rattle.std.proofs.lemmas.List.Elements.{Contains-append_left, Contains-append_right, Contains-append_cases}
+use Rattle.lot_queues.proofs.Common.{Contains, Contains-append_cases, Contains-append_left, Contains-append_right, List, QueuedCall, ap, ap₂, arith, call_of, drop, get_or, get_or-map, get_or-set_other, get_or_default, inl, inr, length, length-map, map, refl, remove, set, subst, suc, sym, take, take-append-drop, zero, ℕ, [], ◌++◌, ◌+◌, ◌-◌, ◌<◌, ◌∙◌, ◌∷◌, ◌≡◌, ◌⊎◌}
 pub use Rattle.lot_machine.proofs.EachOnce.{contains-nothing}
-use Rattle.lot_machine.specs.State.{QueuedCall}
-use Rattle.lot_queues.specs.Fields.{call_of}
 
 pub contains-drop : {A : Type 0} (xs : List A) (k : ℕ) (x : A) → Contains (drop k xs) x → Contains xs x
 contains-drop {A} xs k x w = subst (λ (ys : List A). Contains ys x) (take-append-drop k xs) (Contains-append_right (take k xs) (drop k xs) x w)

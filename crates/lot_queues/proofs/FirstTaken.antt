@@ -1,10 +1,5 @@
 -- What a call shows that takes the first thread of a queue, whichever queue it is.
-use Rattle.std.proofs.Common.{◌≡◌, ◌∙◌, ℕ, ◌+◌, ◌<◌, Option, Some, None, List, [], ◌∷◌, length, drop, slice_get, option_map, ap, sym, refl, subst}
-use Rattle.std.specs.Option.{IfNone, IfSome}
-use Rattle.std.proofs.lemmas.List.{set-get_or}
-use Rattle.lot_lists.specs.NodeLists.{NodeLists, nodes_of, node_at, IsFree}
-use Rattle.lot_queues.specs.QueueLists.{QueueLists, IsThere, IsNowhere}
-use Rattle.lot_queues.specs.Fields.{Fields, relisted, seen}
+use Rattle.lot_queues.proofs.Common.{Fields, IfNone, IfSome, IsFree, IsNowhere, IsThere, List, NodeLists, None, Option, QueueLists, Some, ap, drop, length, node_at, nodes_of, option_map, refl, relisted, seen, set-get_or, slice_get, subst, sym, ℕ, [], ◌+◌, ◌<◌, ◌∙◌, ◌∷◌, ◌≡◌}
 use Rattle.lot_queues.proofs.Changed.{with_lists}
 use Rattle.lot_queues.proofs.Holds.{Holds, itself}
 use Rattle.lot_queues.proofs.Taken.{first-within, others-nowhere, taken-nowhere, taken-there}

@@ -1,16 +1,6 @@
 -- The fields against the value that clauses see, as each method opens and closes it.
-use Rattle.std.proofs.Common.{◌≡◌, ℕ, ◌+◌, ◌-◌, ◌<◌, ◌≤◌, inl, inr, Option, None, List, [], ◌∷◌, ◌++◌, Contains, length, map, set, ap, ap₂, sym, ◌∙◌, refl, subst, arith, length-set, get_or-set_other, slice_index_or, replicate, get_or}
-use Rattle.std.proofs.lemmas.Bool.{cases_lt}
-use Rattle.std.proofs.lemmas.List.{get_or-set_same, get_or-replicate, get_or_past, length-replicate, same_lists, length-map, get_or-map, get_or_default}
-use Rattle.std.proofs.lemmas.List.FromFn.{get_or-map-range_with_len}
-use Rattle.lot_machine.specs.Numbered.{set_number}
-use Rattle.lot_machine.specs.State.{Port, Mutex, QueuedCall}
-use Rattle.lot_machine.specs.Ports.{port_at, clients_of}
-use Rattle.lot_machine.specs.Mutexes.{mutex_at}
-use Rattle.lot_lists.specs.NodeLists.{NodeLists, nodes_of, IsFree, IsConsistent, empty_lists}
-use Rattle.lot_queues.specs.declared.layout.Layout.{Layout}
-use Rattle.lot_queues.specs.QueueLists.{QueueLists, IsThere, IsNowhere, empty_queues, with_calls, with_receivers, with_waiters, with_owner}
-use Rattle.lot_queues.specs.Fields.{Fields, seen, IsLaidOut, threads_in, clients_in, port_in, mutex_in, calls_list, receivers_list, waiters_list, list_count, call_of, relisted}
+use Rattle.lot_queues.proofs.Common.{Contains, Fields, IsConsistent, IsFree, IsLaidOut, IsNowhere, IsThere, Layout, List, Mutex, NodeLists, None, Option, Port, QueueLists, QueuedCall, ap, ap₂, arith, call_of, calls_list, cases_lt, clients_in, clients_of, empty_lists, empty_queues, get_or, get_or-map, get_or-map-range_with_len, get_or-replicate, get_or-set_other, get_or-set_same, get_or_default, get_or_past, inl, inr, length, length-map, length-replicate, length-set, list_count, map, mutex_at, mutex_in, nodes_of, port_at, port_in, receivers_list, refl, relisted, replicate, same_lists, set, set_number, slice_index_or, subst, sym, threads_in, waiters_list, with_calls, with_owner, with_receivers, with_waiters, ℕ, [], ◌++◌, ◌+◌, ◌-◌, ◌<◌, ◌∙◌, ◌∷◌, ◌≡◌, ◌≤◌}
+use Rattle.lot_queues.specs.Fields.{seen}
 use Rattle.lot_queues.proofs.Elements.{contains-nothing}
 use Rattle.lot_queues.proofs.Tables.{table, table-set, table-more, table-alike, table-length}
 use Rattle.lot_queues.proofs.Nowhere.{port-at, mutex-at, clients-at, free-from, away-from, nowhere-from, IsAway}

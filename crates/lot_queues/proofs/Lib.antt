@@ -1,3 +1,4 @@
+pub mod Common
 pub mod Elements
 pub mod Tables
 pub mod Nowhere
@@ -8,3 +9,4 @@ pub mod Taken
 pub mod FirstTaken
 pub mod Callers
 pub mod TakenOut
+pub mod Lemmas

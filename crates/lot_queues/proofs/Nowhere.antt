@@ -1,13 +1,6 @@
 -- Each queue is one of the lists, so a thread that stands in no queue is in no list, and the other way round.
-use Rattle.std.proofs.Common.{◌≡◌, ℕ, zero, suc, ◌+◌, ◌-◌, ◌<◌, ◌≤◌, ◌⊎◌, inl, inr, Option, None, List, [], Contains, length, map, ap, sym, ◌∙◌, refl, subst, arith, unwrap_or}
-use Rattle.std.proofs.lemmas.Bool.{cases_lt}
-use Rattle.std.proofs.lemmas.List.{get_or_past}
-use Rattle.lot_machine.specs.State.{Port, Mutex, QueuedCall}
-use Rattle.lot_machine.specs.Ports.{port_at, clients_of}
-use Rattle.lot_machine.specs.Mutexes.{mutex_at}
-use Rattle.lot_lists.specs.NodeLists.{NodeLists, nodes_of, IsFree}
-use Rattle.lot_queues.specs.QueueLists.{IsThere, IsNowhere, callers_at}
-use Rattle.lot_queues.specs.Fields.{Fields, seen, IsLaidOut, threads_in, clients_in, port_in, mutex_in, calls_list, receivers_list, waiters_list}
+use Rattle.lot_queues.proofs.Common.{Contains, Fields, IsFree, IsLaidOut, IsNowhere, IsThere, List, Mutex, NodeLists, None, Option, Port, QueuedCall, ap, arith, callers_at, calls_list, cases_lt, clients_in, clients_of, get_or_past, inl, inr, length, map, mutex_at, mutex_in, nodes_of, port_at, port_in, receivers_list, refl, subst, suc, sym, threads_in, unwrap_or, waiters_list, zero, ℕ, [], ◌+◌, ◌-◌, ◌<◌, ◌∙◌, ◌≡◌, ◌≤◌, ◌⊎◌}
+use Rattle.lot_queues.specs.Fields.{seen}
 use Rattle.lot_queues.proofs.Elements.{contains-nothing, contains-thread, contains-node, callers}
 use Rattle.lot_queues.proofs.Tables.{table-length, table-at, table-past}
 

@@ -1,13 +1,5 @@
 -- A thread that is put after those of a queue.
-use Rattle.std.proofs.Common.{◌≡◌, ℕ, ◌+◌, ◌-◌, ◌<◌, inl, inr, List, [], ◌∷◌, ◌++◌, Contains, map, set, ap, ap₂, sym, ◌∙◌, subst, arith, length-set, slice_index}
-use Rattle.std.proofs.lemmas.List.{get_or-set_same}
-use Rattle.std.proofs.lemmas.List.Elements.{Contains-push_cases}
-use Rattle.lot_machine.specs.State.{QueuedCall}
-use Rattle.lot_machine.specs.Ports.{port_at, clients_of, with_client}
-use Rattle.lot_machine.specs.Mutexes.{mutex_at}
-use Rattle.lot_lists.specs.NodeLists.{NodeLists, nodes_of, IsFree, IsConsistent, with_pushed}
-use Rattle.lot_queues.specs.QueueLists.{QueueLists, IsThere, IsNowhere, with_calls, with_receivers, with_waiters}
-use Rattle.lot_queues.specs.Fields.{Fields, threads_in, calls_list, receivers_list, waiters_list, call_of}
+use Rattle.lot_queues.proofs.Common.{Contains, Contains-push_cases, Fields, IsConsistent, IsFree, IsNowhere, IsThere, List, NodeLists, QueueLists, QueuedCall, ap, ap₂, arith, call_of, calls_list, clients_of, get_or-set_same, inl, inr, length-set, map, mutex_at, nodes_of, port_at, receivers_list, set, slice_index, subst, sym, threads_in, waiters_list, with_calls, with_client, with_pushed, with_receivers, with_waiters, ℕ, [], ◌++◌, ◌+◌, ◌-◌, ◌<◌, ◌∙◌, ◌∷◌, ◌≡◌}
 use Rattle.lot_queues.proofs.Elements.{map-push}
 use Rattle.lot_queues.proofs.Changed.{with_lists, sent-kept}
 use Rattle.lot_queues.proofs.Holds.{Holds, in-threads, node-below, free, calls-are, receivers-are, waiters-are, clients-are, set-calls, set-receivers, set-waiters, set-clients}

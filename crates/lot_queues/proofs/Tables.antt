@@ -1,12 +1,5 @@
 -- Tables: lists in which the element with number k is f k.
-use Rattle.std.proofs.Common.{◌≡◌, ℕ, zero, suc, ◌+◌, ◌-◌, ◌<◌, ◌≤◌, inl, inr, Some, None, List, [], ◌∷◌, ◌++◌, length, get_or, map, replicate, ap, sym, ◌∙◌, arith, length-set, get_or-set_other}
-use Rattle.std.specs.List.{range_with_len}
-use Rattle.std.proofs.lemmas.List.{same_lists, length-replicate, get_or-replicate, get_or-set_same}
-use Rattle.std.proofs.lemmas.List.FromFn.{length-map-range_with_len, get_or-map-range_with_len, map-range_with_len_more}
-use Rattle.std.proofs.lemmas.Bool.{cases_eq}
-use Rattle.std.proofs.lemmas.Option.{slice_get-get_or, slice_get_past}
-use Rattle.lot_machine.specs.Numbered.{at_number, set_number}
-use Rattle.lot_machine.proofs.Tickets.{at_number-suc}
+use Rattle.lot_queues.proofs.Common.{List, None, Some, ap, arith, at_number, at_number-suc, cases_eq, get_or, get_or-map-range_with_len, get_or-replicate, get_or-set_other, get_or-set_same, inl, inr, length, length-map-range_with_len, length-replicate, length-set, map, map-range_with_len_more, range_with_len, replicate, same_lists, set_number, slice_get-get_or, slice_get_past, suc, sym, zero, ℕ, [], ◌++◌, ◌+◌, ◌-◌, ◌<◌, ◌∙◌, ◌∷◌, ◌≡◌, ◌≤◌}
 
 module _ {X : Type 0} where
   abbrev pub table : (ℕ → X) → ℕ → List X

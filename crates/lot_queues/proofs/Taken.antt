@@ -1,18 +1,5 @@
 -- A thread that is taken from a queue.
-use Rattle.std.proofs.Common.{◌≡◌, ℕ, zero, suc, ◌+◌, ◌-◌, ◌^◌, ◌<◌, ◌≤◌, inl, inr, Bool, true, false, not, IsTrue, Option, Some, None, List, [], Contains, length, map, drop, ap, ap₂, sym, ◌∙◌, refl, subst, arith, option_map, slice_get, unwrap_or}
-use Rattle.std.specs.Option.{IfSome, IfNone, is_some}
-use Rattle.std.specs.List.{remove}
-use Rattle.std.proofs.lemmas.Bool.{cases_lt}
-use Rattle.std.proofs.lemmas.Option.{slice_get-map, slice_get_within, slice_get_past, get_or_from_slice_get, slice_get_read}
-use Rattle.lot_machine.specs.State.{Mutex, QueuedCall}
-use Rattle.lot_machine.specs.Numbered.{at_number, set_number}
-use Rattle.lot_machine.specs.Ports.{port_at, clients_of}
-use Rattle.lot_machine.specs.Mutexes.{mutex_at}
-use Rattle.lot_machine.proofs.Tickets.{at_number-suc, some-injective}
-use Rattle.lot_lists.specs.NodeLists.{NodeLists, nodes_of, node_at, IsFree, IsListed, IsConsistent, with_removed}
-use Rattle.lot_queues.specs.declared.queues.TakenCall.{TakenCall}
-use Rattle.lot_queues.specs.QueueLists.{QueueLists, IsThere, IsNowhere, IsWaiter, with_calls, with_receivers, with_waiters}
-use Rattle.lot_queues.specs.Fields.{Fields, threads_in, calls_list, receivers_list, waiters_list, call_of, relisted}
+use Rattle.lot_queues.proofs.Common.{Bool, Contains, Fields, IfNone, IfSome, IsConsistent, IsFree, IsListed, IsNowhere, IsThere, IsTrue, IsWaiter, List, Mutex, NodeLists, None, Option, QueueLists, QueuedCall, Some, TakenCall, ap, ap₂, arith, at_number, at_number-suc, call_of, calls_list, cases_lt, clients_of, drop, false, get_or_from_slice_get, inl, inr, is_some, length, map, mutex_at, node_at, nodes_of, not, option_map, port_at, receivers_list, refl, relisted, remove, set_number, slice_get, slice_get-map, slice_get_past, slice_get_read, slice_get_within, some-injective, subst, suc, sym, threads_in, true, unwrap_or, waiters_list, with_calls, with_receivers, with_removed, with_waiters, zero, ℕ, [], ◌+◌, ◌-◌, ◌<◌, ◌^◌, ◌∙◌, ◌≡◌, ◌≤◌}
 use Rattle.lot_queues.proofs.Elements.{contains-drop, contains-remove, contains-node, map-drop, map-remove}
 use Rattle.lot_queues.proofs.Nowhere.{away-to, away-less}
 use Rattle.lot_queues.proofs.Changed.{with_lists, relisted-within}

@@ -1,17 +1,6 @@
 -- A thread that is taken out of its queue, wherever it stands.
-use Rattle.std.proofs.Common.{◌≡◌, ℕ, zero, suc, ◌+◌, ◌-◌, ◌==◌, ◌<◌, ◌≤◌, ◌⊎◌, inl, inr, Bool, true, false, not, Option, Some, None, List, [], ◌∷◌, Contains, length, map, filter, cond, ap, ap₂, sym, ◌∙◌, refl, subst, arith, slice_get}
-use Rattle.std.specs.List.{remove, range_with_len}
-use Rattle.std.specs.Option.{IfSome, IfNone, is_some}
-use Rattle.std.proofs.lemmas.Bool.{cases_eq, cases_lt, eqb-true, eqb-false, eq-eqb, ne_eqb}
-use Rattle.std.proofs.lemmas.List.{get_or_past}
-use Rattle.lot_machine.specs.State.{Port, Mutex, QueuedCall}
-use Rattle.lot_machine.specs.Kill.{without, port_without}
-use Rattle.lot_machine.proofs.Tickets.{some-injective}
-use Rattle.lot_machine.proofs.EachOnce.{contains-at, place-in}
-use Rattle.lot_machine.proofs.Killed.{filter-was, without-absent}
-use Rattle.lot_lists.specs.NodeLists.{NodeLists, nodes_of, node_at, IsFree, HasSameSize, IsConsistent, with_removed}
-use Rattle.lot_queues.specs.QueueLists.{QueueLists, IsThere, IsNowhere, queues_without}
-use Rattle.lot_queues.specs.Fields.{Fields, seen, IsLaidOut, threads_in, clients_in, port_in, mutex_in, calls_list, receivers_list, waiters_list, list_count, call_of}
+use Rattle.lot_queues.proofs.Common.{Bool, Contains, Fields, HasSameSize, IfNone, IfSome, IsConsistent, IsFree, IsLaidOut, IsNowhere, IsThere, List, Mutex, NodeLists, None, Option, Port, QueueLists, QueuedCall, Some, ap, ap₂, arith, call_of, calls_list, cases_eq, cases_lt, clients_in, cond, contains-at, eq-eqb, eqb-false, eqb-true, false, filter, filter-was, get_or_past, inl, inr, is_some, length, list_count, map, mutex_in, ne_eqb, node_at, nodes_of, not, place-in, port_in, port_without, queues_without, range_with_len, receivers_list, refl, remove, slice_get, some-injective, subst, suc, sym, threads_in, true, waiters_list, with_removed, without, without-absent, zero, ℕ, [], ◌+◌, ◌-◌, ◌<◌, ◌==◌, ◌∙◌, ◌∷◌, ◌≡◌, ◌≤◌, ◌⊎◌}
+use Rattle.lot_queues.specs.Fields.{seen}
 use Rattle.lot_queues.proofs.Tables.{table, table-same}
 use Rattle.lot_queues.proofs.Nowhere.{away-to}
 use Rattle.lot_queues.proofs.Changed.{with_lists, relisted-here, relisted-other, same-queues, same-port, same-mutex}

@@ -1,12 +1,6 @@
 -- A script whose sleeps are yields is a script.
-use Rattle.std.proofs.Common.{◌≡◌, ℕ, ◌<◌, ◌≤◌, ◌∙◌, All, List, [], ◌∷◌, length, map, fold, refl, ap, arith}
-use Rattle.std.proofs.lemmas.List.{length-map}
-use Rattle.std.proofs.lemmas.List.Elements.{All-head, All-tail, All-cons, All-nil}
-use Rattle.lot_simulation.specs.declared.script.ScriptLine.{ScriptLine}
+use Rattle.lot_script.proofs.Common.{All, All-cons, All-head, All-nil, All-tail, CanNest, IsLine, IsScript, List, Nests, ScriptLine, Sleep, Yield, ap, arith, fold, length, length-map, loops_after, map, open_count, refl, without_sleep, ℕ, [], ◌<◌, ◌∙◌, ◌∷◌, ◌≡◌, ◌≤◌}
 use Rattle.lot_simulation.specs.declared.script.ScriptLine.TheVariants as line
-use Rattle.lot_simulation.specs.declared.script.ScriptTrap.TheVariants.{Yield, Sleep}
-use Rattle.lot_simulation.specs.Script.{without_sleep}
-use Rattle.lot_script.specs.Drafts.{CanNest, IsLine, IsScript, Nests, loops_after, open_count}
 
 is-line : (l : ScriptLine) → IsLine l → IsLine (without_sleep l)
 is-line (line.Trap (Sleep n)) good = tt

@@ -1,10 +1,5 @@
 -- Copies of loops, the outermost or the innermost first.
-use Rattle.std.proofs.Common.{◌≡◌, ◌<◌, ◌≤◌, ◌+◌, ◌-◌, ℕ, zero, suc, sym, ◌∙◌, Some, List, [], ◌∷◌, ◌++◌, length, take, drop, refl, ap, arith, append_assoc, length-drop, get_or, take_all}
-use Rattle.std.specs.Prelude.{slice_get, reverse}
-use Rattle.std.proofs.lemmas.List.{reverse-append, length-reverse}
-use Rattle.std.proofs.lemmas.Option.{slice_get-get_or}
-use Rattle.lot_script.specs.declared.open_loops.OpenLoop.{OpenLoop}
-use Rattle.lot_script.specs.Places.{IsCopy, AreCopies}
+use Rattle.lot_script.proofs.Common.{AreCopies, IsCopy, List, OpenLoop, Some, ap, append_assoc, arith, drop, get_or, length, length-drop, length-reverse, refl, reverse, reverse-append, slice_get, slice_get-get_or, suc, sym, take, take_all, zero, ℕ, [], ◌++◌, ◌+◌, ◌-◌, ◌<◌, ◌∙◌, ◌∷◌, ◌≡◌, ◌≤◌}
 use Rattle.lot_script.proofs.Lists.{take-more}
 
 -- one more before both

@@ -1,12 +1,5 @@
 -- A slice is the front of what is left.
-use Rattle.std.proofs.Common.{◌≡◌, ◌<◌, ◌≤◌, ℕ, min, sym, ◌∙◌, Some, None, List, [], ◌∷◌, take, drop, fold, refl, ap, arith, lt-ltb, le-ltb, true, false}
-use Rattle.std.specs.Prelude.{slice_get, nat_lt, option_and_then}
-use Rattle.std.specs.List.{prefix_len}
-use Rattle.lot_simulation.specs.declared.script.ScriptLine.{ScriptLine}
-use Rattle.lot_simulation.specs.declared.script.ScriptTrap.{ScriptTrap}
-use Rattle.lot_simulation.specs.Script.{Item, is_mark, trap_of, accumulated, rest_after, slice}
-use Rattle.lot_simulation.specs.Script.Item.{Work, Set, Add, Traps}
-use Rattle.lot_script.specs.Places.{Place, Passes, MakesTrap, rest_at, context_at}
+use Rattle.lot_script.proofs.Common.{Add, Item, List, MakesTrap, None, Passes, Place, ScriptLine, ScriptTrap, Set, Some, Traps, Work, accumulated, ap, arith, context_at, drop, false, fold, is_mark, le-ltb, lt-ltb, min, nat_lt, option_and_then, prefix_len, refl, rest_after, rest_at, slice, slice_get, sym, take, trap_of, true, ℕ, [], ◌<◌, ◌∙◌, ◌∷◌, ◌≡◌, ◌≤◌}
 use Rattle.lot_script.proofs.Lists.{prefix_len-stops, slice_get-after}
 
 -- what is no mark stands before the rest

@@ -1,3 +1,4 @@
+pub mod Common
 pub mod Copies
 pub mod Fronts
 pub mod Lists
@@ -8,3 +9,4 @@ pub mod Passed
 pub mod Reached
 pub mod Rests
 pub mod Awake
+pub mod Lemmas

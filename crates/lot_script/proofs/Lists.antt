@@ -1,13 +1,5 @@
 -- Lists, their fronts and what comes after them.
-use Rattle.std.proofs.Common.{◌≡◌, ◌≤◌, ◌+◌, ◌-◌, ℕ, zero, suc, sym, ◌∙◌, Some, None, List, [], ◌∷◌, ◌++◌, length, take, drop, replicate, fold, refl, ap, arith, subst, Bool, true, false, cond}
-use Rattle.std.specs.Prelude.{slice_get, All}
-use Rattle.std.specs.List.{prefix_len}
-use Rattle.std.proofs.lemmas.List.{drop-drop, take-append-le, drop-append-le, drop-replicate, take-replicate, length-replicate}
-use Rattle.std.proofs.Math.Seq.{take-add}
-use Rattle.std.proofs.lemmas.List.Sums.{fold-append}
-use Rattle.std.proofs.lemmas.Option.{slice_get_within, get_or_from_slice_get}
-use Rattle.lot_simulation.specs.Script.{Item, is_mark, accumulated}
-use Rattle.lot_simulation.specs.Script.Item.{Work}
+use Rattle.lot_script.proofs.Common.{All, Bool, Item, List, None, Some, Work, accumulated, ap, arith, cond, drop, drop-append-le, drop-drop, drop-replicate, false, fold, fold-append, get_or_from_slice_get, is_mark, length, length-replicate, prefix_len, refl, replicate, slice_get, slice_get_within, subst, suc, sym, take, take-add, take-append-le, take-replicate, true, zero, ℕ, [], ◌++◌, ◌+◌, ◌-◌, ◌∙◌, ◌∷◌, ◌≡◌, ◌≤◌}
 
 -- past the end there is no element
 pub slice_get_none : {X : Type 0} (xs : List X) (i : ℕ) → slice_get xs i ≡ None → length xs ≤ i

@@ -1,11 +1,6 @@
 -- Lines that nest.
-use Rattle.std.proofs.Common.{rules, ◌≡◌, ◌<◌, ◌≤◌, ℕ, zero, suc, Some, List, [], ◌∷◌, ◌++◌, length, take, fold, refl, arith, subst, length-append}
-use Rattle.std.specs.Prelude.{slice_get}
-use Rattle.std.proofs.lemmas.List.Sums.{fold-append}
-use Rattle.std.proofs.lemmas.List.Elements.{All-append}
-use Rattle.lot_simulation.specs.declared.script.ScriptLine.{ScriptLine}
+use Rattle.lot_script.proofs.Common.{All-append, CanNest, Draft, IsDraft, IsLine, List, Nests, ScriptLine, Some, arith, fold, fold-append, length, length-append, loops_after, pushed, refl, rules, slice_get, subst, suc, take, zero, ℕ, [], ◌++◌, ◌<◌, ◌∷◌, ◌≡◌, ◌≤◌}
 use Rattle.lot_simulation.specs.declared.script.ScriptLine.TheVariants as line
-use Rattle.lot_script.specs.Drafts.{Draft, loops_after, pushed, IsLine, CanNest, Nests, IsDraft}
 
 -- no more than eight loops are open
 pub after-most : (loops : ℕ) (l : ScriptLine) → loops ≤ 8 → CanNest loops l → loops_after loops l ≤ 8

@@ -1,18 +1,6 @@
 -- Two places of a script that mean the same rest of its list are one place, since each mark and trap is passed once.
-use Rattle.std.proofs.Common.{inl, inr, ◌⊎◌, ◌≡◌, ◌≢◌, ◌<◌, ◌≤◌, ◌+◌, ◌-◌, ℕ, zero, suc, sym, ◌∙◌, Option, Some, None, List, [], ◌∷◌, length, take, drop, fold, refl, ap, arith, subst, length-drop}
-use Rattle.std.specs.Prelude.{slice_get, ⊤}
-use Rattle.std.proofs.lemmas.List.{take_all, drop_all}
-use Rattle.std.proofs.lemmas.Option.{slice_get_within}
-use Rattle.std.proofs.lemmas.Bool.{cases_lt}
-use Rattle.lot_simulation.specs.declared.script.ScriptLine.{ScriptLine}
+use Rattle.lot_script.proofs.Common.{AreCopies, AtPort, CanBeDone, Exit, Fits, IsLine, IsScript, Item, List, None, OnMutex, OpenLoop, Option, Place, Reply, ScriptLine, ScriptTrap, Sleep, Some, Stands, Traps, Yield, ap, arith, cases_lt, context_at, drop, drop_all, first_place, fold, inl, inr, length, length-drop, loops_after, open_after, open_at, refl, rest_after, rest_at, slice_get, slice_get_within, subst, suc, sym, take, take_all, unrolled, zero, ℕ, [], ⊤, ◌+◌, ◌-◌, ◌<◌, ◌∙◌, ◌∷◌, ◌≡◌, ◌≢◌, ◌≤◌, ◌⊎◌}
 use Rattle.lot_simulation.specs.declared.script.ScriptLine.TheVariants as line
-use Rattle.lot_simulation.specs.declared.script.ScriptTrap.{ScriptTrap}
-use Rattle.lot_simulation.specs.declared.script.ScriptTrap.TheVariants.{Yield, Reply, AtPort, OnMutex, Sleep, Exit}
-use Rattle.lot_simulation.specs.Script.{Item, rest_after, unrolled}
-use Rattle.lot_simulation.specs.Script.Item.{Traps}
-use Rattle.lot_script.specs.declared.open_loops.OpenLoop.{OpenLoop}
-use Rattle.lot_script.specs.Drafts.{loops_after, IsLine, IsScript}
-use Rattle.lot_script.specs.Places.{Place, CanBeDone, AreCopies, Fits, Stands, first_place, open_after, open_at, rest_at, context_at}
 use Rattle.lot_script.proofs.Lists.{slice_get_none, drop-element, drop-add}
 use Rattle.lot_script.proofs.Opened.{open_at-next, encloses-there, copies-first, length-open_after_lines}
 use Rattle.lot_script.proofs.Passed.{stands-good, stands-nests, stands-done, Fits-line, Passes-some, Passes-whole, Passes-set, Passes-add, Passes-loop, Passes-after, Passes-again, MakesTrap-line}

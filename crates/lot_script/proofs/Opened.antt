@@ -1,13 +1,6 @@
 -- The loops that are open at a line.
-use Rattle.std.proofs.Common.{◌≡◌, ◌≤◌, ◌+◌, ℕ, zero, suc, ◌∙◌, Option, Some, None, List, [], ◌∷◌, length, take, drop, fold, refl, ap, arith}
-use Rattle.std.specs.Prelude.{slice_get, ⊤}
-use Rattle.std.proofs.lemmas.Option.{slice_get_within}
-use Rattle.lot_simulation.specs.declared.script.ScriptLine.{ScriptLine}
+use Rattle.lot_script.proofs.Common.{AreCopies, CanNest, IsCopy, IsScript, Item, List, None, OpenLoop, Option, ScriptLine, Some, ap, arith, drop, fold, length, loops_after, open_after, open_after_lines, open_at, pieces, refl, slice_get, slice_get_within, suc, take, zero, ℕ, [], ⊤, ◌+◌, ◌∙◌, ◌∷◌, ◌≡◌, ◌≤◌}
 use Rattle.lot_simulation.specs.declared.script.ScriptLine.TheVariants as line
-use Rattle.lot_simulation.specs.Script.{Item, pieces}
-use Rattle.lot_script.specs.declared.open_loops.OpenLoop.{OpenLoop}
-use Rattle.lot_script.specs.Drafts.{loops_after, CanNest, IsScript}
-use Rattle.lot_script.specs.Places.{open_after, open_after_lines, open_at, IsCopy, AreCopies}
 use Rattle.lot_script.proofs.Lists.{drop-element, slice_get_none}
 use Rattle.lot_script.proofs.Nesting.{Nests-line}
 

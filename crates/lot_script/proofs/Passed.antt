@@ -1,19 +1,6 @@
 -- What is passed from a place, line by line.
-use Rattle.std.proofs.Common.{inl, inr, ◌⊎◌, min, ◌≡◌, ◌<◌, ◌≤◌, ◌+◌, ◌-◌, ◌%◌, ℕ, suc, sym, ◌∙◌, Option, Some, None, List, [], ◌∷◌, ◌++◌, length, drop, replicate, refl, ap, arith, subst, true}
-use Rattle.std.specs.Prelude.{slice_get}
-use Rattle.std.specs.List.{prefix_len}
-use Rattle.std.proofs.lemmas.List.{drop_all}
-use Rattle.std.proofs.lemmas.Option.{slice_get_within}
-use Rattle.std.proofs.lemmas.Bool.{cases_lt}
-use Rattle.lot_simulation.specs.declared.script.ScriptLine.{ScriptLine}
+use Rattle.lot_script.proofs.Common.{Add, AreCopies, AtPort, CanBeDone, CanNest, Exit, Fits, IsCopy, IsLine, IsScript, Item, List, MakesTrap, None, OnMutex, OpenLoop, Option, Passes, Place, Reply, ScriptLine, ScriptTrap, Set, Sleep, Some, Stands, Traps, Work, Yield, accumulated, ap, arith, cases_lt, drop, drop_all, inl, inr, is_mark, items_of, left_of, length, min, open_at, pieces, prefix_len, refl, replicate, rest_after, rest_at, slice_get, slice_get_within, subst, suc, sym, true, ℕ, [], ◌%◌, ◌++◌, ◌+◌, ◌-◌, ◌<◌, ◌∙◌, ◌∷◌, ◌≡◌, ◌≤◌, ◌⊎◌}
 use Rattle.lot_simulation.specs.declared.script.ScriptLine.TheVariants as line
-use Rattle.lot_simulation.specs.declared.script.ScriptTrap.{ScriptTrap}
-use Rattle.lot_simulation.specs.declared.script.ScriptTrap.TheVariants.{Yield, Reply, AtPort, OnMutex, Sleep, Exit}
-use Rattle.lot_simulation.specs.Script.{Item, pieces, items_of, is_mark, rest_after, accumulated}
-use Rattle.lot_simulation.specs.Script.Item.{Work, Set, Add, Traps}
-use Rattle.lot_script.specs.declared.open_loops.OpenLoop.{OpenLoop}
-use Rattle.lot_script.specs.Drafts.{IsLine, CanNest, IsScript}
-use Rattle.lot_script.specs.Places.{Place, CanBeDone, IsCopy, AreCopies, Fits, Stands, Passes, MakesTrap, open_at, left_of, rest_at}
 use Rattle.lot_script.proofs.Lists.{slice_get_none, drop-element, All-element, drop-add, fold-take-add, prefix_len_then, marks_front, fold-work, take-work, drop-work}
 use Rattle.lot_script.proofs.Copies.{copies-length}
 use Rattle.lot_script.proofs.Opened.{open_at-next, nests-there, encloses-there, copies-first}

@@ -1,16 +1,6 @@
 -- What is left at a place that fits is a rest of the unrolled list.
-use Rattle.std.proofs.Common.{◌≡◌, ◌<◌, ◌≤◌, ◌+◌, ◌-◌, ℕ, zero, suc, ◌∙◌, Option, Some, None, List, [], ◌∷◌, ◌++◌, length, take, drop, refl, ap, arith, subst, append_assoc, length-append, option_and_then}
-use Rattle.std.specs.Prelude.{slice_get}
-use Rattle.std.proofs.lemmas.List.{take-append-drop, length-replicate}
-use Rattle.lot_simulation.specs.declared.script.ScriptLine.{ScriptLine}
+use Rattle.lot_script.proofs.Common.{Add, AreCopies, Exit, Fits, IsLine, IsRestOf, IsScript, Item, List, None, OpenLoop, Option, Pieces, Place, ScriptLine, ScriptTrap, Set, Some, Stands, Traps, Work, ap, append_assoc, arith, drop, items_of, left_of, length, length-append, length-replicate, open_after, open_at, option_and_then, pieces, refl, rest_at, slice_get, subst, suc, take, take-append-drop, trap_of, unrolled, zero, ℕ, [], ◌++◌, ◌+◌, ◌-◌, ◌<◌, ◌∙◌, ◌∷◌, ◌≡◌, ◌≤◌}
 use Rattle.lot_simulation.specs.declared.script.ScriptLine.TheVariants as line
-use Rattle.lot_simulation.specs.declared.script.ScriptTrap.{ScriptTrap}
-use Rattle.lot_simulation.specs.declared.script.ScriptTrap.TheVariants.{Exit}
-use Rattle.lot_simulation.specs.Script.{Item, Pieces, pieces, items_of, trap_of, unrolled}
-use Rattle.lot_simulation.specs.Script.Item.{Work, Set, Add, Traps}
-use Rattle.lot_script.specs.declared.open_loops.OpenLoop.{OpenLoop}
-use Rattle.lot_script.specs.Drafts.{IsLine, IsScript}
-use Rattle.lot_script.specs.Places.{Place, Fits, Stands, AreCopies, IsRestOf, open_after, open_at, left_of, rest_at}
 use Rattle.lot_script.proofs.Lists.{slice_get_none, drop-element, All-element}
 use Rattle.lot_script.proofs.Opened.{open_at-next, nests-there}
 use Rattle.lot_script.proofs.Passed.{stands-done, stands-good, stands-nests, rest_at-begun, rest_at-plain, rest_at-compute, MakesTrap-exit}

@@ -1,14 +1,6 @@
 -- What is left of a script at a place, and what is passed from there.
-use Rattle.std.proofs.Common.{◌≡◌, ℕ, suc, sym, ◌∙◌, List, [], ◌∷◌, ◌++◌, drop, refl, ap, append_assoc}
-use Rattle.std.specs.Prelude.{⊤}
-use Rattle.std.specs.List.{repeat}
-use Rattle.lot_simulation.specs.declared.script.ScriptLine.{ScriptLine}
+use Rattle.lot_script.proofs.Common.{Exit, Item, List, OpenLoop, Pieces, ScriptLine, Traps, Work, after_end, ap, append_assoc, drop, first_of_list, items_of, left_of, pieces, refl, repeat, suc, sym, ℕ, [], ⊤, ◌++◌, ◌∙◌, ◌∷◌, ◌≡◌}
 use Rattle.lot_simulation.specs.declared.script.ScriptLine.TheVariants as line
-use Rattle.lot_simulation.specs.declared.script.ScriptTrap.TheVariants.{Exit}
-use Rattle.lot_simulation.specs.Script.{Item, Pieces, pieces, items_of, first_of_list}
-use Rattle.lot_simulation.specs.Script.Item.{Work, Traps}
-use Rattle.lot_script.specs.declared.open_loops.OpenLoop.{OpenLoop}
-use Rattle.lot_script.specs.Places.{after_end, left_of}
 
 -- neither a loop nor its end
 abbrev pub IsPlain : ScriptLine → Type 0

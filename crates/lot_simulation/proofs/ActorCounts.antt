@@ -1,12 +1,5 @@
 -- What is counted of each actor's turns adds up to what is counted of all turns.
-use Rattle.std.proofs.Common.{◌≡◌, ℕ, suc, ◌+◌, ◌<◌, ◌≤◌, ◌==◌, ne_eqb, eq-eqb, All, List, [], ◌∷◌, length, sum_by, refl, sym, ◌∙◌, ap, arith, cond}
-use Rattle.std.specs.List.{range_with_len}
-use Rattle.std.proofs.lemmas.List.Elements.{All-head, All-tail, All-cons, All-nil, All-weaker}
-use Rattle.std.proofs.lemmas.List.Sums.{sum_by-cons}
-use Rattle.lot_machine.specs.declared.reply.Reply.{Reply}
-use Rattle.lot_simulation.specs.Report.{ActorTurn, beside, turns_made, count_in, total_of, turns_of}
-use Rattle.lot_simulation.specs.World.{Program, World, IsLegal, opening_world, system_turn, system_answers}
-use Rattle.lot_machine.proofs.Sums.{sum-filter, sum-same, sum-swap, sum-one}
+use Rattle.lot_simulation.proofs.Common.{ActorTurn, All, All-cons, All-head, All-nil, All-tail, All-weaker, IsLegal, List, Program, Reply, World, ap, arith, beside, cond, count_in, eq-eqb, length, ne_eqb, opening_world, range_with_len, refl, suc, sum-filter, sum-one, sum-same, sum-swap, sum_by, sum_by-cons, sym, system_answers, system_turn, total_of, turns_made, turns_of, ℕ, [], ◌+◌, ◌<◌, ◌==◌, ◌∙◌, ◌∷◌, ◌≡◌, ◌≤◌}
 
 -- ---- turns of actors below n
 

@@ -1,9 +1,5 @@
 -- Runs of turns of one actor.
-use Rattle.std.proofs.Common.{◌≡◌, ◌+◌, List, [], ◌∷◌, ◌++◌, length, replicate, refl, arith, length-append}
-use Rattle.std.specs.Prelude.{sum_by}
-use Rattle.std.proofs.lemmas.List.{length-replicate}
-use Rattle.std.proofs.lemmas.List.Sums.{sum_by-cons}
-use Rattle.lot_simulation.specs.Grammar.{ActorRun, actors_of}
+use Rattle.lot_simulation.proofs.Common.{ActorRun, List, actors_of, arith, length, length-append, length-replicate, refl, replicate, sum_by, sum_by-cons, [], ◌++◌, ◌+◌, ◌∷◌, ◌≡◌}
 
 -- as many actors as the runs have turns
 pub length-actors_of : (runs : List ActorRun) → length (actors_of runs) ≡ sum_by (λ (run : ActorRun). run.count) runs

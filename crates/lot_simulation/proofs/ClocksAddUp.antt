@@ -1,37 +1,6 @@
 -- What a processor has run and how long it was idle are its clock.
-use Rattle.std.proofs.Common.{◌≡◌, ℕ, zero, suc, ◌+◌, ◌-◌, ◌<◌, ◌≤◌, ◌==◌, nat_lt, Bool, true, false, ◌||◌, ◌⊎◌, inl, inr, Option, Some, None, is_none, List, [], ◌∷◌, length, map, replicate, take, min, refl, sym, ◌∙◌, ap, subst, arith, cond, ne_eqb, eq-eqb, slice_get, get_or, unwrap_or, option_map}
-use Rattle.std.specs.List.{prefix_len}
-use Rattle.std.specs.List.Sorted.{IsNonDecreasing}
-use Rattle.std.proofs.Math.ListN.{length-set}
-use Rattle.std.proofs.lemmas.Bool.{cases_eq, le-leb, eqb-true, eqb-false, le-ltb, ltb-true, ltb-false}
-use Rattle.std.proofs.lemmas.List.FromFn.{length-map-range_with_len}
-use Rattle.std.proofs.lemmas.List.{length-map, length-replicate}
-use Rattle.std.proofs.lemmas.List.Sums.{sum_by-cons}
-use Rattle.std.proofs.lemmas.Option.{slice_get_cases}
-use Rattle.lot_machine.specs.declared.action.Action.{Action}
-use Rattle.lot_machine.specs.declared.command.Command.{Command}
-use Rattle.lot_machine.specs.declared.drawn.Drawn.{Drawn}
+use Rattle.lot_simulation.proofs.Common.{Action, ActorTurn, BadProcessor, BadTicks, Bool, Clock, Command, Context, Drawn, Due, IsNonDecreasing, IsWithinBounds, List, Moment, None, NotRunning, Option, Program, Refusal, ScriptTrap, Sizes, Some, State, TimedTurn, World, action_of, actor_event, actor_turns, all_due, ap, arith, at_number, at_number-suc, cases_eq, clock_after_console, clock_at, clock_of, clocks_after, clocks_after_console, clocks_after_processor, cond, console_turn, context_of, cost_of, count_in, draw, due_first, earliest, end_of, ended_at, eq-eqb, eqb-false, eqb-true, event_effect, event_of_slice, event_refusal, false, first_failing, following, get_or, idle_to, idle_until, inl, inr, is_bad_processor, is_idle_draw, is_mark, is_none, last_moment, le-leb, le-ltb, length, length-map, length-map-range_with_len, length-replicate, length-set, ltb-false, ltb-true, map, min, moment_after, moment_after_all, nat_lt, ne_eqb, next_due, next_name, number-set_same, number_of, opening_moment, option_map, prefix_len, processor_event, processor_turn, ready_threads, refl, replicate, resolved, set_number, slice, slice_get, slice_get_cases, slice_on, step, step-limits, subst, suc, sum_by-cons, sym, system_turn, take, thread_on, ticks_in, timed_room, timed_turns, total_of, true, turn_due, turns_from, turns_of, unless_refused, unwrap_or, used_there, weight_of, winner, within, woken, zero, ℕ, [], ◌+◌, ◌-◌, ◌<◌, ◌==◌, ◌||◌, ◌∙◌, ◌∷◌, ◌≡◌, ◌≤◌, ◌⊎◌}
 use Rattle.lot_machine.specs.declared.event.Event.TheVariants as event
-use Rattle.lot_machine.specs.declared.refusal.Refusal.{Refusal}
-use Rattle.lot_machine.specs.declared.refusal.Refusal.TheVariants.{BadProcessor, NotRunning, BadTicks}
-use Rattle.lot_machine.specs.declared.sizes.Sizes.{Sizes}
-use Rattle.lot_machine.specs.Bounds.{IsWithinBounds}
-use Rattle.lot_machine.specs.Commands.{first_failing, unless_refused}
-use Rattle.lot_machine.specs.Lottery.{winner}
-use Rattle.lot_machine.specs.Numbered.{at_number, set_number}
-use Rattle.lot_machine.specs.State.{State, ready_threads, thread_on, weight_of}
-use Rattle.lot_machine.specs.Step.{draw, event_effect, event_refusal, is_bad_processor, step, used_there}
-use Rattle.lot_machine.proofs.Queues.{number-set_same}
-use Rattle.lot_machine.proofs.StepSizes.{step-limits}
-use Rattle.lot_machine.proofs.Tickets.{at_number-suc}
-use Rattle.lot_simulation.specs.declared.script.ScriptTrap.{ScriptTrap}
-use Rattle.lot_simulation.specs.declared.timed.Clock.{Clock}
-use Rattle.lot_simulation.specs.declared.timed.Due.{Due}
-use Rattle.lot_simulation.specs.Report.{ActorTurn, count_in, ticks_in, total_of, turns_of}
-use Rattle.lot_simulation.specs.Script.{Context, is_mark, slice}
-use Rattle.lot_simulation.specs.Timed.{Moment, TimedTurn, all_due, clock_after_console, clock_of, clocks_after, clocks_after_console, clocks_after_processor, cost_of, due_first, earliest, end_of, ended_at, following, idle_to, is_idle_draw, last_moment, moment_after, moment_after_all, next_due, opening_moment, timed_room, timed_turns, turn_due, turns_from, within, woken}
-use Rattle.lot_simulation.specs.TimedReport.{actor_turns, clock_at, idle_until}
-use Rattle.lot_simulation.specs.World.{Program, World, action_of, actor_event, console_turn, context_of, number_of, processor_event, processor_turn, event_of_slice, next_name, resolved, slice_on, system_turn}
 use Rattle.lot_simulation.proofs.OtherTurns.{event_for, event-for, set-kept}
 use Rattle.lot_simulation.proofs.TimesRise.{Each, IsTimely, console-clock, each-due, earliest-one, kept, next, next-follows, number-map, opening-timely, there, first-due}
 

@@ -1,19 +1,5 @@
 -- Whom a draw has won is one of the numbered threads.
-use Rattle.std.proofs.Common.{◌≡◌, ℕ, zero, suc, ◌-◌, ◌<◌, ◌≤◌, Bool, true, false, ◌⊎◌, inl, inr, Option, Some, None, List, [], ◌∷◌, length, filter, get_or, slice_index, refl, sym, ◌∙◌, ap, arith}
-use Rattle.std.specs.Prelude.{map}
-use Rattle.std.specs.List.{slice_get}
-use Rattle.std.proofs.lemmas.List.{length-map}
-use Rattle.std.proofs.lemmas.Option.{slice_get_cases, get_or_from_slice_get, slice_get-get_or}
-use Rattle.lot_machine.specs.declared.drawn.Drawn.{Drawn}
-use Rattle.lot_machine.specs.declared.record.Record.{Record}
-use Rattle.lot_machine.specs.declared.record.Status.{Status}
-use Rattle.lot_machine.specs.Bounds.{IsBetween}
-use Rattle.lot_machine.specs.Lottery.{winner}
-use Rattle.lot_machine.specs.Numbered.{at_number, numbers, option_any}
-use Rattle.lot_machine.specs.State.{State, is_ready, ready_threads, status_of, weight_of}
-use Rattle.lot_machine.proofs.NamedThreads.{winner-within}
-use Rattle.lot_machine.proofs.RecordsKept.{numbered}
-use Rattle.lot_machine.proofs.Tickets.{at_number-suc}
+use Rattle.lot_simulation.proofs.Common.{Bool, Drawn, IsBetween, List, None, Option, Record, Some, State, Status, ap, arith, at_number, at_number-suc, false, filter, get_or, get_or_from_slice_get, inl, inr, is_ready, length, length-map, map, numbered, numbers, option_any, ready_threads, refl, slice_get, slice_get-get_or, slice_get_cases, slice_index, status_of, suc, sym, true, weight_of, winner, winner-within, zero, ℕ, [], ◌-◌, ◌<◌, ◌∙◌, ◌∷◌, ◌≡◌, ◌≤◌, ◌⊎◌}
 
 -- what stands at a number within the list
 pub number-some : {A : Type 0} (xs : List A) (n : ℕ) (d : A) → IsBetween 1 (length xs) n → at_number xs n ≡ Some (get_or xs (n - 1) d)

@@ -1,10 +1,5 @@
 -- With room left no turn is due after the last, and a refusal ends a strict play.
-use Rattle.std.proofs.Common.{◌≡◌, ℕ, zero, suc, ◌<◌, Bool, true, false, Option, Some, None, List, [], ◌∷◌, ◌++◌, ◌||◌, length, refl, sym, ◌∙◌, ap, append-nil, arith, cond}
-use Rattle.std.specs.Option.{option_map}
-use Rattle.lot_simulation.specs.declared.timed.Due.{Due}
-use Rattle.lot_simulation.specs.Timed.{Moment, TimedTurn, due_first, end_of, ended_at, following, is_refusal, is_stopped, last_moment, moment_after, moment_after_all, next_due, opening_moment, timed_room, timed_turns, turn_due, turns_from}
-use Rattle.lot_simulation.specs.TimedReport.{early_text, timed_report, timed_report_of}
-use Rattle.lot_simulation.specs.World.{Program}
+use Rattle.lot_simulation.proofs.Common.{Bool, Due, List, Moment, None, Option, Program, Some, TimedTurn, ap, append-nil, arith, cond, due_first, early_text, end_of, ended_at, false, following, is_refusal, is_stopped, last_moment, length, moment_after, moment_after_all, next_due, opening_moment, option_map, refl, suc, sym, timed_report, timed_report_of, timed_room, timed_turns, true, turn_due, turns_from, zero, ℕ, [], ◌++◌, ◌<◌, ◌||◌, ◌∙◌, ◌∷◌, ◌≡◌}
 
 module _ (program : Program) where
   -- the moment after the turns from this one on

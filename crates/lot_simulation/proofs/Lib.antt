@@ -1,3 +1,4 @@
+pub mod Common
 pub mod ActorRuns
 pub mod ActorCounts
 pub mod OtherTurns
@@ -8,3 +9,4 @@ pub mod DrawnThreads
 pub mod RecordCounts
 pub mod ProcessorCounts
 pub mod EarlyEnds
+pub mod Lemmas

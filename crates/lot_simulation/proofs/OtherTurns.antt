@@ -1,37 +1,8 @@
 -- A turn of one actor leaves what the next turn of another processor costs.
-use Rattle.std.proofs.Common.{◌≡◌, ℕ, suc, ◌+◌, ◌-◌, ◌≤◌, ◌==◌, nat_le, Bool, true, false, ◌⊎◌, inl, inr, Option, Some, None, is_none, List, [], ◌∷◌, length, refl, sym, ◌∙◌, ap, subst, arith, cond, unwrap_or, get_or, slice_get}
-use Rattle.std.proofs.lemmas.Bool.{eqb-true}
-use Rattle.std.proofs.Math.ListN.{length-set}
-use Rattle.std.proofs.lemmas.List.{length-append}
-use Rattle.lot_machine.specs.declared.command.Command.{Command}
-use Rattle.lot_machine.specs.declared.command.Command.TheVariants.{MakeThread, MakeFunded, Kill}
-use Rattle.lot_machine.specs.declared.record.Record.{Record}
-use Rattle.lot_machine.specs.Bounds.{IsBetween}
-use Rattle.lot_machine.specs.Places.{placed}
-use Rattle.lot_machine.specs.declared.event.Event.{Event}
+use Rattle.lot_simulation.proofs.Common.{Bool, Command, Context, Event, IsBetween, IsInOrder, Kill, List, MakeFunded, MakeThread, None, Option, Program, Record, Refusal, Reply, ScriptTrap, Slice, Some, State, Step, TurnMade, World, actor_event, ap, arith, at_number, command-grown, command_effect, command_refusal, command_step, command_turn, cond, console_turn, context_of, contexts_after, contexts_after_command, cost_of, eqb-true, event_of_slice, event_refusal, false, found-runs, free-dead, free_threads, get_or, inl, inr, is_none, killed-length, killed_by, length, length-append, length-placed, length-set, named-apart, nat_le, new_context, newborn, next_name, number-set, number-stays, number_of, numbered, other-sizes, placed, processor_event, processor_of, processor_turn, refl, resolved, set_number, slice, slice_get, slice_on, status_of, step, step-found, step-grown, step-idle, step-limits, step-order, step-sizes, step-used_there, subst, suc, sym, system_turn, thread_in, thread_meant, thread_on, true, unless_refused, unwrap_or, used_there, wake, ℕ, [], ◌+◌, ◌-◌, ◌==◌, ◌∙◌, ◌∷◌, ◌≡◌, ◌≤◌, ◌⊎◌}
 use Rattle.lot_machine.specs.declared.event.Event.TheVariants as event
-use Rattle.lot_machine.specs.declared.reply.Reply.{Reply}
 use Rattle.lot_machine.specs.declared.reply.Reply.TheVariants as reply
 use Rattle.lot_machine.specs.declared.record.Status.TheVariants as status
-use Rattle.lot_machine.specs.Numbered.{at_number, set_number}
-use Rattle.lot_machine.specs.State.{State, free_threads, status_of, thread_on}
-use Rattle.lot_machine.specs.declared.refusal.Refusal.{Refusal}
-use Rattle.lot_machine.specs.Commands.{Step, command_effect, command_refusal, command_step, newborn, thread_meant, unless_refused}
-use Rattle.lot_machine.specs.Step.{event_refusal, step, used_there, wake}
-use Rattle.lot_machine.specs.Order.{IsInOrder}
-use Rattle.lot_machine.specs.Named.{processor_of, killed_by, thread_in}
-use Rattle.lot_machine.proofs.Changes.{number-set}
-use Rattle.lot_machine.proofs.Places.{length-placed, number-stays}
-use Rattle.lot_machine.proofs.StepChanges.{free-dead}
-use Rattle.lot_machine.proofs.RecordsKept.{found-runs, numbered}
-use Rattle.lot_machine.proofs.OrderKept.{step-order}
-use Rattle.lot_machine.proofs.RunsElsewhere.{step-found, step-idle, step-used_there}
-use Rattle.lot_machine.proofs.NamedThreads.{named-apart}
-use Rattle.lot_machine.proofs.StepSizes.{other-sizes, killed-length, step-grown, step-sizes, step-limits, command-grown}
-use Rattle.lot_simulation.specs.declared.script.ScriptTrap.{ScriptTrap}
-use Rattle.lot_simulation.specs.Script.{Context, Slice, slice}
-use Rattle.lot_simulation.specs.World.{Program, World, TurnMade, number_of, context_of, slice_on, event_of_slice, processor_event, actor_event, contexts_after, contexts_after_command, new_context, command_turn, console_turn, next_name, processor_turn, resolved, system_turn}
-use Rattle.lot_simulation.specs.Timed.{cost_of}
 use Rattle.lot_simulation.proofs.DrawnThreads.{number-some}
 
 -- ---- what a turn costs

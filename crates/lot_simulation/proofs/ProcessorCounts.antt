@@ -1,19 +1,7 @@
 -- The console and the timer win no draws and use no ticks, so what is counted of the processors adds up to what is counted of all.
-use Rattle.std.proofs.Common.{◌≡◌, ℕ, ◌+◌, ◌-◌, ◌<◌, ◌≤◌, ◌==◌, nat_le, Bool, true, false, ◌⊎◌, inl, inr, Option, Some, None, List, [], ◌∷◌, sum_by, refl, sym, ◌∙◌, arith, cond, ne_eqb, eq-eqb}
-use Rattle.std.specs.List.{range_with_len}
-use Rattle.std.proofs.lemmas.Bool.{cases_lt, eqb-false, leb-true}
-use Rattle.std.proofs.lemmas.List.Sums.{sum_by-cons}
-use Rattle.lot_machine.specs.declared.command.Command.{Command}
+use Rattle.lot_simulation.proofs.Common.{ActorTurn, Bool, Command, List, None, Option, Program, Refusal, Reply, Some, State, Step, World, arith, beside, cases_lt, command_effect, command_refusal, command_step, cond, console_turn, count_in, eq-eqb, eqb-false, event_refusal, false, idles_in, inl, inr, leb-true, nat_le, ne_eqb, next_name, opening_world, processor_event, processor_turn, quanta_in, range_with_len, refl, resolved, step, sum-at_most, sum-nothing, sum-one, sum-plus, sum-same, sum_by, sum_by-cons, sym, system_answers, system_turn, ticks_in, total_of, true, turns_made, turns_of, unless_refused, wake, ℕ, [], ◌+◌, ◌-◌, ◌<◌, ◌==◌, ◌∙◌, ◌∷◌, ◌≡◌, ◌≤◌, ◌⊎◌}
 use Rattle.lot_machine.specs.declared.command.Command.TheVariants.{List as Listing}
-use Rattle.lot_machine.specs.declared.refusal.Refusal.{Refusal}
-use Rattle.lot_machine.specs.declared.reply.Reply.{Reply}
 use Rattle.lot_machine.specs.declared.event.Event.TheVariants as event
-use Rattle.lot_machine.specs.State.{State}
-use Rattle.lot_machine.specs.Step.{event_refusal, step, wake}
-use Rattle.lot_machine.specs.Commands.{Step, command_refusal, command_effect, command_step, unless_refused}
-use Rattle.lot_simulation.specs.World.{Program, World, console_turn, next_name, opening_world, processor_event, processor_turn, resolved, system_turn, system_answers}
-use Rattle.lot_simulation.specs.Report.{ActorTurn, beside, turns_made, quanta_in, idles_in, ticks_in, count_in, total_of, turns_of}
-use Rattle.lot_machine.proofs.Sums.{sum-at_most, sum-nothing, sum-one, sum-plus, sum-same}
 
 -- nothing is counted in the reply
 abbrev pub IsSilent : Reply → Type 0

@@ -1,48 +1,7 @@
 -- The quanta and the ticks of the threads' records add up to what is counted in the turns that led to them.
-use Rattle.std.specs.Prelude.{⊤}
-use Rattle.std.proofs.Common.{◌≡◌, ℕ, zero, suc, ◌+◌, ◌-◌, ◌*◌, ◌^◌, ◌<◌, ◌≤◌, ◌==◌, Bool, true, false, Option, Some, None, is_none, List, [], ◌∷◌, ◌++◌, cond, length, map, sum, sum_by, get_or, set, slice_get, slice_set, slice_index, nat_lt, nat_le, refl, sym, ◌∙◌, ap, subst, arith, if◌then◌else◌}
-use Rattle.std.proofs.Math.Nat.{min-eq_left}
-use Rattle.std.proofs.lemmas.Bool.{ltb-false}
-use Rattle.std.proofs.lemmas.Option.{slice_get_within, get_or_from_slice_get}
-use Rattle.std.proofs.lemmas.List.{get_or-map, map-set, set-get_or}
-use Rattle.std.proofs.lemmas.List.Sums.{sum-map, sum_by-cons, sum_by_push, sum_by-set, get_or-le-sum_by}
-use Rattle.lot_machine.specs.declared.record.Record.{Record}
-use Rattle.lot_machine.specs.declared.record.Status.{Status}
+use Rattle.lot_simulation.proofs.Common.{Action, ActorTurn, After, Answered, BadProcessor, BadTicks, Bool, By, Command, Console, Drawn, Ends, Event, GoesOn, IsBetween, IsInOrder, IsTallied, IsWithinBounds, Keeps, Kill, Kills, Leaves, List, NewThread, None, NotRunning, Option, Program, PutRecord, Record, Refusal, ScriptTrap, Sizes, Slice, Some, State, Status, Step, ThreadRef, TrapRefusal, TurnMade, Work, World, actor_event, after_trap, all-pass, ap, arith, at_number, at_number-suc, beside, change_record, checked-leads, checked-sizes, checked_effect, command-leads, command_step, cond, console_turn, count_in, draw, event_effect, event_of_slice, expire, false, found-runs, free_threads, get_or, get_or-le-sum_by, get_or-map, get_or_from_slice_get, if◌then◌else◌, is_bad_processor, is_none, kept, length, ltb-false, map, map-set, min-eq_left, nat_le, nat_lt, newborn, next_name, number_of, numbered, opening, opening-order, opening_world, placed, processor_event, processor_turn, quanta_in, ready_threads, refl, resolved, saturated, set, set-get_or, set_number, slice_get, slice_get_within, slice_index, slice_on, slice_set, some-of, started, step, step-limits, step-order, subst, suc, sum, sum-map, sum_by, sum_by-cons, sum_by-set, sum_by_push, sym, system_after, system_answers, system_run, system_turn, thread_meant, thread_on, thread_there, ticks_in, total_of, trap, trap_effect, trap_refusal, true, turns_made, unless_refused, used_there, wake, weight_of, winner, with_ticks, zero, ℕ, [], ⊤, ◌*◌, ◌++◌, ◌+◌, ◌-◌, ◌<◌, ◌==◌, ◌^◌, ◌∙◌, ◌∷◌, ◌≡◌, ◌≤◌}
 use Rattle.lot_machine.specs.declared.record.Status.TheVariants as status
-use Rattle.lot_machine.specs.declared.action.Action.{Action}
-use Rattle.lot_machine.specs.declared.after.After.{After}
-use Rattle.lot_machine.specs.declared.after.After.TheVariants.{GoesOn, Leaves, Ends}
-use Rattle.lot_machine.specs.declared.command.Command.{Command}
-use Rattle.lot_machine.specs.declared.command.Command.TheVariants.{Kill}
-use Rattle.lot_machine.specs.declared.event.Event.{Event}
 use Rattle.lot_machine.specs.declared.event.Event.TheVariants as event
-use Rattle.lot_machine.specs.declared.refusal.Refusal.{Refusal}
-use Rattle.lot_machine.specs.declared.refusal.Refusal.TheVariants.{BadProcessor, NotRunning, BadTicks}
-use Rattle.lot_machine.specs.declared.refusal.TrapRefusal.{TrapRefusal}
-use Rattle.lot_machine.specs.declared.drawn.Drawn.{Drawn}
-use Rattle.lot_machine.specs.Bounds.{IsBetween, IsWithinBounds}
-use Rattle.lot_machine.specs.Numbered.{at_number, set_number}
-use Rattle.lot_machine.specs.Lottery.{winner}
-use Rattle.lot_machine.specs.declared.sizes.Sizes.{Sizes}
-use Rattle.lot_machine.specs.Places.{placed}
-use Rattle.lot_machine.specs.State.{State, opening, free_threads, thread_on, change_record, ready_threads, weight_of, saturated}
-use Rattle.lot_machine.specs.declared.reference.ThreadRef.{ThreadRef}
-use Rattle.lot_machine.specs.Commands.{Step, command_step, thread_meant, unless_refused, newborn}
-use Rattle.lot_machine.specs.Traps.{after_trap, with_ticks}
-use Rattle.lot_machine.specs.Change.{NewThread, PutRecord}
-use Rattle.lot_machine.specs.Step.{is_bad_processor, started, draw, expire, trap, trap_refusal, trap_effect, checked_effect, thread_there, used_there, wake, event_effect, step}
-use Rattle.lot_machine.specs.Order.{IsInOrder}
-use Rattle.lot_simulation.specs.declared.script.ScriptTrap.{ScriptTrap}
-use Rattle.lot_simulation.specs.Script.{Slice}
-use Rattle.lot_simulation.specs.World.{Program, World, TurnMade, event_of_slice, number_of, slice_on, console_turn, processor_turn, processor_event, actor_event, opening_world, system_turn, system_after, system_answers, system_run, next_name, resolved}
-use Rattle.lot_simulation.specs.World.TurnAnswer.{Answered}
-use Rattle.lot_simulation.specs.Report.{ActorTurn, beside, turns_made, count_in, quanta_in, ticks_in, total_of}
-use Rattle.lot_machine.proofs.OrderKept.{opening-order, step-order}
-use Rattle.lot_machine.proofs.CommandsKept.{all-pass, some-of}
-use Rattle.lot_machine.proofs.RecordsKept.{found-runs, numbered}
-use Rattle.lot_machine.proofs.Tickets.{at_number-suc}
-use Rattle.lot_machine.proofs.StepChanges.{By, Console, Kills, Work, IsTallied, Keeps, kept, command-leads, checked-leads}
-use Rattle.lot_machine.proofs.StepSizes.{checked-sizes, step-limits}
 use Rattle.lot_simulation.proofs.DrawnThreads.{drawn-numbered, number-some}
 use Rattle.lot_simulation.proofs.ProcessorCounts.{command-silent}
 

@@ -1,14 +1,6 @@
 -- Turns in the order of time are a run of the system, over a legal history.
-use Rattle.std.proofs.Common.{◌≡◌, ℕ, zero, suc, ◌<◌, ◌≤◌, ◌==◌, Bool, true, false, Option, Some, None, List, [], ◌∷◌, length, map, take, drop, refl, ap, arith, cond, lit<}
-use Rattle.std.specs.Prelude.{count_by}
-use Rattle.std.proofs.lemmas.Bool.{eqb-true}
-use Rattle.std.proofs.lemmas.List.{length-map, length-drop}
-use Rattle.std.proofs.lemmas.List.Sums.{sum_by-cons}
-use Rattle.lot_simulation.specs.declared.timed.Due.{Due}
-use Rattle.lot_simulation.specs.Report.{ActorTurn, beside, turns_made}
-use Rattle.lot_simulation.specs.Timed.{Moment, TimedTurn, all_due, console_due, due_first, last_moment, moment_after, moment_after_all, next_due, opening_moment, timed_room, timed_schedule, timed_turns, turn_due, turns_from}
-use Rattle.lot_simulation.specs.TimedReport.{actor_turns}
-use Rattle.lot_simulation.specs.World.{Program, IsLegalInTime, system_after, system_answers, system_run, system_turn}
+use Rattle.lot_simulation.proofs.Common.{ActorTurn, Bool, Due, IsLegalInTime, List, Moment, None, Option, Program, Some, TimedTurn, actor_turns, all_due, ap, arith, beside, cond, console_due, count_by, drop, due_first, eqb-true, false, last_moment, length, length-drop, length-map, lit<, map, moment_after, moment_after_all, next_due, opening_moment, refl, suc, sum_by-cons, system_after, system_answers, system_run, system_turn, take, timed_schedule, timed_turns, true, turn_due, turns_from, turns_made, zero, ℕ, [], ◌<◌, ◌==◌, ◌∷◌, ◌≡◌, ◌≤◌}
+use Rattle.lot_simulation.specs.Timed.{timed_room}
 use Rattle.lot_simulation.proofs.TimesRise.{Each, each-due, earliest-one, first-due}
 
 -- there are fewer turns than a counter can hold

@@ -1,29 +1,6 @@
 -- In the order of time no turn comes before the one before it.
-use Rattle.std.proofs.Common.{◌≡◌, ℕ, zero, suc, ◌+◌, ◌-◌, ◌<◌, ◌≤◌, ◌==◌, Bool, true, false, ◌||◌, ◌⊎◌, inl, inr, Option, Some, None, is_none, List, [], ◌∷◌, ◌++◌, length, map, take, drop, refl, sym, ◌∙◌, ap, subst, arith, cond, nat_lt, nat_le, unwrap_or, option_map, get_or}
-use Rattle.std.specs.List.{flat_map, range_with_len}
-use Rattle.std.specs.List.Sorted.{IsNonDecreasing}
-use Rattle.std.proofs.lemmas.Bool.{eqb-true, eqb-false, leb-true, leb-false, cases_eq}
-use Rattle.std.proofs.lemmas.List.FromFn.{get_or-map-range_with_len, length-map-range_with_len}
-use Rattle.std.proofs.lemmas.Option.{slice_get-map}
-use Rattle.lot_machine.specs.Bounds.{IsWithinBounds}
-use Rattle.lot_machine.specs.Numbered.{at_number, numbers, set_number}
-use Rattle.lot_machine.proofs.Changes.{number-set}
-use Rattle.lot_machine.proofs.LendSums.{number-within}
-use Rattle.lot_machine.proofs.Queues.{number-set_same}
-use Rattle.lot_machine.proofs.Tickets.{at_number-suc, some-injective}
-use Rattle.lot_machine.proofs.OrderKept.{opening-order}
-use Rattle.lot_machine.proofs.RecordsKept.{found-runs, numbered}
-use Rattle.lot_machine.specs.State.{State, thread_on}
+use Rattle.lot_simulation.proofs.Common.{Bool, Clock, Due, IsNonDecreasing, IsWithinBounds, List, Moment, None, Option, Program, ScriptTrap, Sleep, Sleeper, Some, State, TimedTurn, World, alarm_due, alarms_after, alarms_asleep, all_due, ap, arith, at_number, at_number-suc, cases_eq, clock_after_console, clock_of, clocks_after, clocks_after_console, clocks_after_processor, cond, console_due, cost_of, drop, due_first, earliest, end_of, eqb-false, eqb-true, false, flat_map, following, found-runs, get_or, get_or-map-range_with_len, idle_to, inl, inr, is_idle_draw, is_none, is_stopped, leb-false, leb-true, length, length-map-range_with_len, map, moment_after, nat_le, nat_lt, next_due, number-set, number-set_same, number-within, numbered, numbers, opening-order, opening_moment, option_and_then, option_map, option_map_or, processor_due, processor_event, processors_due, range_with_len, refl, set_alarm, set_number, sleeper_by, sleeper_on, slice_get-map, slice_on, some-injective, sooner, subst, suc, sym, system_turn, take, thread_on, timed_room, timed_turns, timer_due, true, turn_due, turns_from, unwrap_or, within, woken, zero, ℕ, [], ◌++◌, ◌+◌, ◌-◌, ◌<◌, ◌==◌, ◌||◌, ◌∙◌, ◌∷◌, ◌≡◌, ◌≤◌, ◌⊎◌}
 use Rattle.lot_machine.specs.declared.record.Status.TheVariants as status
-use Rattle.lot_simulation.specs.declared.script.ScriptTrap.{ScriptTrap}
-use Rattle.lot_simulation.specs.declared.script.ScriptTrap.TheVariants.{Sleep}
-use Rattle.std.specs.Prelude.{option_and_then}
-use Rattle.std.specs.Option.{option_map_or}
-use Rattle.lot_simulation.specs.declared.timed.Clock.{Clock}
-use Rattle.lot_simulation.specs.declared.timed.Due.{Due}
-use Rattle.lot_simulation.specs.declared.timed.Sleeper.{Sleeper}
-use Rattle.lot_simulation.specs.World.{Program, World, processor_event, slice_on, sleeper_by, sleeper_on, system_turn}
-use Rattle.lot_simulation.specs.Timed.{Moment, opening_moment, clock_of, cost_of, console_due, alarm_due, timer_due, processor_due, processors_due, all_due, set_alarm, alarms_asleep, alarms_after, sooner, earliest, within, end_of, following, is_stopped, next_due, is_idle_draw, idle_to, woken, clock_after_console, clocks_after_console, clocks_after_processor, clocks_after, TimedTurn, turn_due, moment_after, due_first, turns_from, timed_room, timed_turns}
 use Rattle.lot_simulation.proofs.DrawnThreads.{number-some}
 use Rattle.lot_simulation.proofs.OtherTurns.{IsOrderly, IsSpared, turn-grows, turn-keeps}
 

@@ -1,13 +1,5 @@
 -- Seats in a list, taken in one after another.
-use Rattle.std.proofs.Common.{◌≡◌, ℕ, zero, suc, ◌+◌, ◌<◌, List, [], ◌∷◌, ◌++◌, length, map, drop, get_or, Option, Some, None, false, refl, sym, ap, ◌∙◌, subst, append_assoc, append-nil, arith, ◌⊎◌, inl, inr, ⊎_elim}
-use Rattle.std.specs.Prelude.{All, IfSome, slice_get}
-use Rattle.std.proofs.lemmas.Option.{get_or_from_slice_get, slice_get-get_or, slice_get_within}
-use Rattle.atomic_table.specs.Seated.{TableId}
-use Rattle.lot_engine.specs.declared.fault.TurnFault.{TurnFault}
-use Rattle.lot_engine.specs.Seen.{Seen}
-use Rattle.lot_station.specs.declared.baton.view.View.{View}
-use Rattle.lot_station.specs.BatonViews.{claim, resting, together, SeesAll}
-use Rattle.lot_station.specs.BatonSeats.{Seat, Baton, IsSeatOf, HasEachSeat, seat, claim_of, Dealt, Shows}
+use Rattle.lot_station.proofs.Common.{All, Baton, Dealt, HasEachSeat, IfSome, IsSeatOf, List, None, Option, Seat, Seen, SeesAll, Shows, Some, TableId, TurnFault, View, ap, append-nil, append_assoc, arith, claim, claim_of, drop, false, get_or, get_or_from_slice_get, inl, inr, length, map, refl, resting, seat, slice_get, slice_get-get_or, slice_get_within, subst, suc, sym, together, zero, ℕ, [], ⊎_elim, ◌++◌, ◌+◌, ◌<◌, ◌∙◌, ◌∷◌, ◌≡◌, ◌⊎◌}
 
 pub all_at : (P : Seat → Type 0) (l : List Seat) → All P l → (k : ℕ) (s : Seat) → slice_get l k ≡ Some s → P s
 all_at P l all k s e = subst P (get_or_from_slice_get l k s s e) (all k s (slice_get_within l k s e))

@@ -1,15 +1,6 @@
 -- What is counted of turns is what is added up over them.
-use Rattle.std.proofs.Common.{◌≡◌, ℕ, suc, ◌+◌, List, [], ◌∷◌, length, sum_by, Some, Bool, true, false, ◌==◌, refl, sym, ap, ◌∙◌, arith}
-use Rattle.std.specs.Prelude.{All, slice_get, if◌then◌else◌}
-use Rattle.std.proofs.Math.Bool.{cond}
-use Rattle.std.proofs.lemmas.List.Sums.{sum_by-cons}
-use Rattle.lot_machine.specs.declared.reply.Reply.{Reply}
-use Rattle.lot_simulation.specs.Report.{ActorTurn, beside, turns_made, turns_of, total_of, count_in, quanta_in, idles_in, ticks_in}
-use Rattle.lot_simulation.specs.World.{Program, World, opening_world, system_turn, system_answers}
-use Rattle.lot_engine.specs.Seen.{Seen}
-use Rattle.lot_station.specs.BatonSeats.{Seat, Shows}
+use Rattle.lot_station.proofs.Common.{ActorTurn, AddUp, All, Bool, CountsAddUp, List, Program, Reply, Seat, Seen, Shows, Some, World, ap, arith, beside, cond, count_in, false, idles_in, if◌then◌else◌, length, opening_world, quanta_in, refl, share, slice_get, suc, sum_by, sum_by-cons, summed, summed_by, sym, system_answers, system_turn, ticks_in, total_of, true, turns_made, turns_of, ℕ, [], ◌+◌, ◌==◌, ◌∙◌, ◌∷◌, ◌≡◌}
 use Rattle.lot_station.proofs.BatonClosing.{all_at}
-use Rattle.lot_station.specs.BatonSums.{summed, summed_by, share, AddUp, CountsAddUp}
 
 -- the turns that these actors make from this world
 turns_from : Program → World → List ℕ → List ActorTurn

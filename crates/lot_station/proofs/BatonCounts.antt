@@ -1,16 +1,5 @@
 -- What is counted of an actor's turns while a history grows.
-use Rattle.std.proofs.Common.{◌≡◌, ◌⊎◌, ℕ, zero, suc, ◌+◌, ◌<◌, ◌==◌, Bool, true, false, cond, List, [], ◌∷◌, ◌++◌, length, Some, inl, inr, ⊎_elim, refl, sym, ap, ◌∙◌, arith}
-use Rattle.std.specs.Prelude.{if◌then◌else◌, slice_get}
-use Rattle.lot_simulation.specs.Report.{ActorTurn, beside, turns_made, turns_of}
-use Rattle.lot_simulation.specs.World.{Program, World, opening_world, system_turn, system_answers}
-use Rattle.lot_engine.specs.declared.counts.Counts.{Counts}
-use Rattle.lot_engine.specs.declared.turn.Answer.{Answer}
-use Rattle.lot_engine.specs.Counted.{counted, counted_with}
-use Rattle.lot_engine.specs.Seen.{Seen, after_turn}
-use Rattle.lot_engine.specs.Turns.{Answers}
-use Rattle.lot_engine.proofs.CountFacts.{counted-own_more}
-use Rattle.lot_station.specs.Settings.{counts_in, turns_by}
-use Rattle.lot_station.specs.BatonViews.{Extends}
+use Rattle.lot_station.proofs.Common.{ActorTurn, Answer, Answers, Bool, Counts, Extends, List, Program, Seen, Some, World, after_turn, ap, arith, beside, cond, counted, counted-own_more, counted_with, counts_in, false, if◌then◌else◌, inl, inr, length, opening_world, refl, slice_get, suc, sym, system_answers, system_turn, true, turns_by, turns_made, turns_of, zero, ℕ, [], ⊎_elim, ◌++◌, ◌+◌, ◌<◌, ◌==◌, ◌∙◌, ◌∷◌, ◌≡◌, ◌⊎◌}
 use Rattle.lot_station.proofs.BatonShares.{turns_by-append, turns_by-cons}
 
 -- the turns of one actor among those that these actors make from this world

@@ -1,17 +1,5 @@
 -- Facts about histories and about lists of views.
-use Rattle.std.proofs.Common.{◌≡◌, ◌≢◌, ◌⊎◌, ℕ, zero, suc, ◌+◌, ◌<◌, ◌≤◌, List, [], ◌∷◌, ◌++◌, length, set, map, refl, sym, ap, ◌∙◌, subst, ⊎_elim, inl, inr, append_assoc, append-nil, add-zero, arith, Bool, true, false, ◌==◌, eq-eqb, ne_eqb}
-use Rattle.std.specs.Prelude.{if◌then◌else◌}
-use Rattle.std.proofs.Math.Bool.{cond}
-use Rattle.std.proofs.lemmas.List.Recursion.{is_count_by}
-use mathlib.Core.Option.{some, some-ne-none, some-injective}
-use lib.ListN.{get_elem?}
-use Rattle.crossbeam_queue.proofs.Lists.{at_set}
-use Rattle.lot_engine.specs.Seen.{Seen}
-use Rattle.lot_station.specs.declared.baton.view.Claim.{Claim}
-use Rattle.lot_station.specs.declared.baton.view.View.{View}
-use Rattle.lot_station.specs.BatonViews.{claim, StartsWith, Sees, SeesAll}
-use Rattle.lot_station.specs.Settings.{turns_by}
-use Rattle.lot_station.specs.BatonRule.{IsClaimOf, AllFit}
+use Rattle.lot_station.proofs.Common.{AllFit, Bool, Claim, IsClaimOf, List, Seen, Sees, SeesAll, StartsWith, View, add-zero, ap, append-nil, append_assoc, arith, at_set, claim, cond, eq-eqb, false, get_elem?, if◌then◌else◌, inl, inr, is_count_by, length, map, ne_eqb, refl, set, some, some-injective, some-ne-none, subst, suc, sym, true, turns_by, zero, ℕ, [], ⊎_elim, ◌++◌, ◌+◌, ◌<◌, ◌==◌, ◌∙◌, ◌∷◌, ◌≡◌, ◌≢◌, ◌≤◌, ◌⊎◌}
 
 -- how many turns of the actor there are, a turn at a time
 counted : ℕ → List ℕ → ℕ

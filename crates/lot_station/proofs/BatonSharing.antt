@@ -1,14 +1,5 @@
 -- The seats' shares add up.
-use Rattle.std.proofs.Common.{◌≡◌, ◌≢◌, ℕ, zero, suc, ◌+◌, ◌<◌, ◌≤◌, List, [], ◌∷◌, ◌++◌, length, sum_by, Some, Bool, true, false, ◌==◌, All, refl, sym, ap, ◌∙◌, arith, eq-eqb, ne_eqb}
-use Rattle.std.specs.Prelude.{slice_get, if◌then◌else◌}
-use Rattle.std.proofs.lemmas.List.Sums.{sum_by-cons}
-use mathlib.Core.Logic.{dite}
-use native.Mathlib.Decide.{ℕ_discrete}
-use Rattle.lot_simulation.specs.World.{Program, World, opening_world, system_turn, system_after}
-use Rattle.lot_engine.specs.Seen.{Seen}
-use Rattle.lot_station.specs.Settings.{turns_by}
-use Rattle.lot_station.specs.BatonSeats.{Seat, HasEachSeat, Shows}
-use Rattle.lot_station.specs.BatonSums.{summed, summed_by, share, AddUp}
+use Rattle.lot_station.proofs.Common.{AddUp, All, Bool, HasEachSeat, List, Program, Seat, Seen, Shows, Some, World, ap, arith, dite, eq-eqb, false, if◌then◌else◌, length, ne_eqb, opening_world, refl, share, slice_get, suc, sum_by, sum_by-cons, summed, summed_by, sym, system_after, system_turn, true, turns_by, zero, ℕ, ℕ_discrete, [], ◌++◌, ◌+◌, ◌<◌, ◌==◌, ◌∙◌, ◌∷◌, ◌≡◌, ◌≢◌, ◌≤◌}
 use Rattle.lot_station.proofs.BatonClosing.{all_at}
 use Rattle.lot_station.proofs.BatonShares.{turns_by-append, turns_by-cons}
 

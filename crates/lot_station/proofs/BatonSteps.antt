@@ -1,17 +1,5 @@
 -- Each step keeps the rule.
-use Rattle.std.proofs.Common.{◌≡◌, ◌≢◌, ℕ, zero, suc, ◌+◌, ◌<◌, ◌≤◌, List, [], ◌∷◌, ◌++◌, length, set, Some, None, Bool, true, false, true≢false, ◌==◌, refl, sym, ap, ◌∙◌, subst, ⊎_elim, inl, inr, append-nil, arith, eq-eqb, ne_eqb}
-use Rattle.std.specs.Prelude.{if◌then◌else◌}
-use mathlib.Core.Logic.{dite}
-use native.Mathlib.Decide.{ℕ_discrete}
-use mathlib.Core.Option.{some, some-ne-none, some-injective}
-use lib.ListN.{get_elem?}
-use Rattle.crossbeam_queue.specs.Fifo.{Pushes, Pops, Forks, Merges, Learns}
-use Rattle.crossbeam_queue.proofs.Lists.{at_set, set_again, set_else, at_longer}
-use Rattle.lot_engine.specs.Seen.{Seen}
-use Rattle.lot_station.specs.declared.baton.view.Claim.{Claim}
-use Rattle.lot_station.specs.declared.baton.view.View.{View}
-use Rattle.lot_station.specs.BatonViews.{claim, all_actors, newcomer, resting, holding, SeesAll, first_only, took, gave, Next, all_but_first, first_actor, note_of, together}
-use Rattle.lot_station.specs.BatonRule.{AllFit, ViewFits, content, HoldsSystem, Opened, Kept}
+use Rattle.lot_station.proofs.Common.{AllFit, Bool, Claim, Forks, HoldsSystem, Kept, Learns, List, Merges, Next, None, Opened, Pops, Pushes, Seen, SeesAll, Some, View, ViewFits, all_actors, all_but_first, ap, append-nil, arith, at_longer, at_set, claim, content, dite, eq-eqb, false, first_actor, first_only, gave, get_elem?, holding, if◌then◌else◌, inl, inr, length, ne_eqb, newcomer, note_of, refl, resting, set, set_again, set_else, some, some-injective, some-ne-none, subst, suc, sym, together, took, true, true≢false, zero, ℕ, ℕ_discrete, [], ⊎_elim, ◌++◌, ◌+◌, ◌<◌, ◌==◌, ◌∙◌, ◌∷◌, ◌≡◌, ◌≢◌, ◌≤◌}
 use Rattle.lot_station.proofs.BatonShares.{turns_by-other, sees_self, at_end, views_set, Moved, all_moved, all_owned, all_both, all_noted, all_seen}
 
 single : (j : ℕ) (u : View) → get_elem? (newcomer ∷ []) j ≡ some u → (j ≡ 0) × (u ≡ newcomer)

@@ -1,17 +1,5 @@
 -- What a seat may say after it had the system in its hands.
-use Rattle.std.proofs.Common.{◌≡◌, ℕ, ◌+◌, ◌≤◌, false, Option, List, [], ◌∷◌, Result, Ok, Err, IfOk, IfErr, refl, sym, ap, ◌∙◌, subst, inl, inr, arith}
-use Rattle.lot_script.specs.Slices.{Parts}
-use Rattle.lot_engine.specs.declared.counts.Counts.{Counts}
-use Rattle.lot_engine.specs.declared.fault.TurnFault.{TurnFault}
-use Rattle.lot_engine.specs.declared.turn.Answer.{Answer}
-use Rattle.lot_engine.specs.Counted.{counted_with}
-use Rattle.lot_engine.specs.Seen.{Setting, Seen, after_turn}
-use Rattle.lot_engine.specs.Turns.{Answers, Faults, Goes}
-use Rattle.lot_station.specs.declared.baton.view.Claim.{Claim}
-use Rattle.lot_station.specs.declared.baton.view.View.{View}
-use Rattle.lot_station.specs.BatonViews.{claim, resting, holding, took, gave, note_of, together, Extends, Sees, SeesAll, Next}
-use Rattle.lot_station.specs.Settings.{IsLegalIn, counts_in, turns_by}
-use Rattle.lot_station.specs.BatonSeats.{Seat, Looks, Turns, seen_in}
+use Rattle.lot_station.proofs.Common.{Answer, Answers, Claim, Counts, Err, Extends, Faults, Goes, IfErr, IfOk, IsLegalIn, List, Looks, Next, Ok, Option, Parts, Result, Seat, Seen, Sees, SeesAll, Setting, TurnFault, Turns, View, after_turn, ap, arith, claim, counted_with, counts_in, false, gave, holding, inl, inr, note_of, refl, resting, seen_in, subst, sym, together, took, turns_by, ℕ, [], ◌+◌, ◌∙◌, ◌∷◌, ◌≡◌, ◌≤◌}
 use Rattle.lot_station.proofs.BatonCounts.{counts-still, counts-more}
 use Rattle.lot_station.proofs.BatonShares.{turns_by-append, turns_by-own}
 

@@ -1,10 +1,5 @@
 -- How often an actor stands in a history.
-use Rattle.std.proofs.Common.{◌≡◌, ℕ, ◌+◌, ◌==◌, cond, List, [], ◌∷◌, length, count_by, refl, sym, ◌∙◌, ap}
-use Rattle.std.proofs.lemmas.List.Sums.{sum_by-cons, length-filter}
-use Rattle.lot_simulation.specs.Report.{ActorTurn, beside, turns_of}
-use Rattle.lot_simulation.specs.World.{Program, World, opening_world, system_turn, system_answers}
-use Rattle.lot_engine.specs.Seen.{Seen}
-use Rattle.lot_station.specs.Settings.{times_in, turns_in}
+use Rattle.lot_station.proofs.Common.{ActorTurn, List, Program, Seen, World, ap, beside, cond, count_by, length, length-filter, opening_world, refl, sum_by-cons, sym, system_answers, system_turn, times_in, turns_in, turns_of, ℕ, [], ◌+◌, ◌==◌, ◌∙◌, ◌∷◌, ◌≡◌}
 
 -- an actor has as many turns as it stands among the actors
 count-beside : (program : Program) (actor : ℕ) (w : World) (actors : List ℕ) → count_by (λ turn. turn.actor == actor) (beside actors (system_answers program w actors)) ≡ count_by (λ a. a == actor) actors

@@ -1,16 +1,5 @@
 -- What is left of a share when some seats are dealt.
-use Rattle.std.proofs.Common.{◌≡◌, ◌⊎◌, ℕ, zero, suc, ◌+◌, ◌<◌, All, List, [], ◌∷◌, ◌++◌, length, slice_get, Some, None, sum_by, inl, inr, ⊎_elim, refl, sym, ap, ◌∙◌, subst, arith}
-use Rattle.std.specs.List.{range_with_len}
-use Rattle.std.proofs.lemmas.List.Sums.{sum_by-cons}
-use Rattle.lot_machine.specs.declared.reply.Reply.{Reply}
-use Rattle.lot_simulation.specs.Report.{quanta_in, ticks_in, total_of, turns_of}
-use Rattle.lot_simulation.specs.World.{IsLegal}
-use Rattle.lot_simulation.proofs.ActorCounts.{counts-add_up, lengths-add_up, turns_made-actors, turns_made-length}
-use Rattle.lot_machine.proofs.Sums.{sum-same}
-use Rattle.lot_engine.specs.Seen.{Seen}
-use Rattle.lot_station.specs.Holders.{Holder, dealt}
-use Rattle.lot_station.specs.Settings.{times_in, turns_in}
-use Rattle.lot_station.specs.Shares.{IsEnough}
+use Rattle.lot_station.proofs.Common.{All, Holder, IsEnough, IsLegal, List, None, Reply, Seen, Some, ap, arith, counts-add_up, dealt, inl, inr, length, lengths-add_up, quanta_in, range_with_len, refl, slice_get, subst, suc, sum-same, sum_by, sum_by-cons, sym, ticks_in, times_in, total_of, turns_in, turns_made-actors, turns_made-length, turns_of, zero, ℕ, [], ⊎_elim, ◌++◌, ◌+◌, ◌<◌, ◌∙◌, ◌∷◌, ◌≡◌, ◌⊎◌}
 use Rattle.lot_station.proofs.Counting.{length-turns_of}
 
 -- There is a part for each actor from k on, of n, and what is counted of these actors.

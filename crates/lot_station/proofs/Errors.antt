@@ -1,6 +1,5 @@
 -- What an error leaves to prove.
-use Rattle.std.proofs.Common.{Result, Ok, Err, IfOk}
-use Rattle.std.specs.Prelude.{IsErr}
+use Rattle.lot_station.proofs.Common.{Err, IfOk, IsErr, Ok, Result}
 
 -- nothing, of what is said of a success
 pub if-ok-none : {A E : Type 0} (r : Result A E) (P : A → Type 0) → IsErr r → IfOk r P

@@ -1,3 +1,4 @@
+pub mod Common
 pub mod Errors
 pub mod Loops
 pub mod Totals
@@ -11,3 +12,4 @@ pub mod BatonShares
 pub mod BatonSharing
 pub mod BatonSteps
 pub mod BatonTelling
+pub mod Lemmas

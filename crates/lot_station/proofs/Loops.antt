@@ -1,8 +1,5 @@
 -- What a loop over a slice has found of the items that it has passed.
-use Rattle.std.proofs.Common.{◌≡◌, ℕ, ◌+◌, ◌<◌, List, get_or, Some, subst, ◌∙◌}
-use Rattle.std.specs.Prelude.{slice_get}
-use Rattle.std.proofs.lemmas.Option.{get_or_from_slice_get}
-use borrow.Author.Count.{below_more}
+use Rattle.lot_station.proofs.Common.{List, Some, below_more, get_or, get_or_from_slice_get, slice_get, subst, ℕ, ◌+◌, ◌<◌, ◌∙◌, ◌≡◌}
 
 pub below_next : {A : Type 0} (l : List A) (P : ℕ → A → Type 0) (n : ℕ) (x : A) → ((j : ℕ) (s : A) → j < n → slice_get l j ≡ Some s → P j s) → x ≡ get_or l n x → P n x → (j : ℕ) (s : A) → j < n + 1 → slice_get l j ≡ Some s → P j s
 below_next l P n x below is here j s low at =

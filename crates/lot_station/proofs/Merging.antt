@@ -1,7 +1,5 @@
 -- What shares have together.
-use Rattle.std.proofs.Common.{◌≡◌, ℕ, ◌+◌, ◌<◌, List, [], ◌∷◌, ◌++◌, length, drop, get_or, sum_by, sym, ap, ◌∙◌, append_assoc, append-nil, arith, length-append}
-use Rattle.std.proofs.lemmas.List.Sums.{sum_by-append}
-use Rattle.lot_station.specs.Holders.{Holder}
+use Rattle.lot_station.proofs.Common.{Holder, List, ap, append-nil, append_assoc, arith, drop, get_or, length, length-append, sum_by, sum_by-append, sym, ℕ, [], ◌++◌, ◌+◌, ◌<◌, ◌∙◌, ◌∷◌, ◌≡◌}
 
 -- ---- seats taken in one after another
 

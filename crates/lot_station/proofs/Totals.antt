@@ -1,20 +1,5 @@
 -- What a system's history has after one turn more.
-use Rattle.std.proofs.Common.{◌≡◌, ℕ, ◌+◌, ◌≤◌, ◌==◌, List, [], ◌∷◌, ◌++◌, length, cond, Option, Some, refl, sym, ◌∙◌, ap, subst, arith, length-append}
-use Rattle.std.proofs.lemmas.List.Elements.{All-pop}
-use Rattle.std.proofs.lemmas.List.Sums.{sum_by_push}
-use Rattle.lot_simulation.specs.Report.{quanta_in, ticks_in, total_of}
-use Rattle.lot_machine.specs.declared.reply.Reply.{Reply}
-use Rattle.lot_simulation.specs.World.{Program, IsLegal}
-use Rattle.lot_engine.specs.declared.counts.Counts.{Counts}
-use Rattle.lot_engine.specs.declared.turn.Answer.{Answer}
-use Rattle.lot_engine.specs.declared.fault.TurnFault.{TurnFault}
-use Rattle.lot_engine.specs.Counted.{counted, counted_with}
-use Rattle.lot_script.specs.Slices.{Parts}
-use Rattle.lot_engine.specs.Seen.{Setting, Seen, after_turn}
-use Rattle.lot_engine.specs.Turns.{Answers, Faults, Goes, IsWorkOf}
-use Rattle.lot_engine.proofs.CountFacts.{counted-one_more}
-use Rattle.lot_station.specs.Holders.{Holder, with_turn}
-use Rattle.lot_station.specs.Settings.{AtSome, turns_in}
+use Rattle.lot_station.proofs.Common.{All-pop, Answer, Answers, AtSome, Counts, Faults, Goes, Holder, IsLegal, IsWorkOf, List, Option, Parts, Program, Reply, Seen, Setting, Some, TurnFault, after_turn, ap, arith, cond, counted, counted-one_more, counted_with, length, length-append, quanta_in, refl, subst, sum_by_push, sym, ticks_in, total_of, turns_in, with_turn, ℕ, [], ◌++◌, ◌+◌, ◌==◌, ◌∙◌, ◌∷◌, ◌≡◌, ◌≤◌}
 
 -- ---- the totals
 

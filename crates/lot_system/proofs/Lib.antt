@@ -9,3 +9,4 @@ pub mod SeedFacts
 pub mod ChangedFacts
 pub mod RefusedFacts
 mod TableFacts
+pub mod Lemmas

@@ -36,7 +36,7 @@ pub fn put_answer<W: Write>(
     match *reply {
         Reply::List(kind) => {
             page.write_out(writer)?;
-            write_listing(system, style, actor, kind, writer)
+            write_listing(system.settle(), style, actor, kind, writer)
         }
         _ => write_reply(writer, page, heading(system, style, actor), event, reply),
     }

@@ -1,8 +1,6 @@
 //! Why threads weigh nothing.
-ghost use Rattle.std.specs.Prelude.{◌≡◌};
-
-use lot_engine::System;
-use lot_machine::{Kind, Name, TicketRow};
+use lot_engine::Settled;
+use lot_machine::{Name, TicketNumber, TicketRow};
 
 /// Why a Ready thread weighs nothing.
 #[derive(Debug, Drop)]
@@ -16,18 +14,16 @@ pub enum Lack {
 }
 
 /// Why the Ready thread with this name weighs nothing. From the thread up it follows one ticket each.
-pub(crate) fn lack_of(system: &mut System, thread: &Name) -> Lack
-    ensures { system.new ≡ system.old }
-{
-    let Some(mut ticket) = backing(system, thread) else {
+pub(crate) fn lack_of(settled: Settled<'_>, thread: &Name) -> Lack {
+    let Some(mut ticket) = backing(settled, thread) else {
         return Lack::Ticket;
     };
-    for _step in 0..system.currency_count() {
+    for _step in 0..settled.kernel.currency_count() {
         if ticket.value > 0 {
             return Lack::Value;
         }
         let TicketRow { issuer, .. } = ticket;
-        match backing(system, &issuer) {
+        match backing(settled, &issuer) {
             Some(above) => ticket = above,
             None => return Lack::Funding(issuer),
         }
@@ -37,12 +33,10 @@ pub(crate) fn lack_of(system: &mut System, thread: &Name) -> Lack
 
 /// A ticket that funds the thread or the currency with this name, if one does: one that is worth something if there
 /// is one.
-fn backing(system: &mut System, name: &Name) -> Option<TicketRow>
-    ensures { system.new ≡ system.old }
-{
+fn backing(settled: Settled<'_>, name: &Name) -> Option<TicketRow> {
     let mut first: Option<TicketRow> = None;
-    for place in 0..system.given_count(Kind::Tickets) {
-        if let Some(row) = funding_row(system, place + 1, name) {
+    for place in 0..settled.kernel.ticket_count() {
+        if let Some(row) = funding_row(settled, place + 1, name) {
             if row.value > 0 {
                 return Some(row);
             }
@@ -53,10 +47,8 @@ fn backing(system: &mut System, name: &Name) -> Option<TicketRow>
 }
 
 /// The row of the ticket with this number, if it funds the thread or the currency with this name.
-fn funding_row(system: &mut System, ticket: u32, name: &Name) -> Option<TicketRow>
-    ensures { system.new ≡ system.old }
-{
-    let row = system.ticket_row(ticket)?;
+fn funding_row(settled: Settled<'_>, ticket: u32, name: &Name) -> Option<TicketRow> {
+    let row = settled.ticket_row(TicketNumber { number: ticket })?;
     match &row.target {
         Some(target) if target == name => Some(row),
         _ => None,

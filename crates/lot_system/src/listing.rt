@@ -3,14 +3,14 @@ ghost use Rattle.std.specs.Prelude.{◌≡◌, ◌≤◌, ◌++◌, codes, false
 ghost use Rattle.std.specs.Fmt.{decimal};
 ghost use Rattle.std.specs.List.{flat_map, range_with_len};
 ghost use Rattle.lot_simulation.specs.Texts as texts;
-ghost use Rattle.lot_engine.specs.Seen.{given_count, world_of};
+ghost use Rattle.lot_engine.specs.Seen.{given_count};
 ghost use Rattle.lot_system.specs.Listing as listing;
 ghost use Rattle.lot_system.specs.Listing.{is_there, row_line, rows_among};
 ghost use Rattle.lot_io.specs.Writing.{Writes};
 
-use lot_engine::System;
+use lot_engine::Settled;
 use lot_io::{IoFault, Watched};
-use lot_machine::Kind;
+use lot_machine::{CurrencyNumber, Kind, ThreadNumber, TicketNumber};
 use lot_print::{write_currency, write_listing_line, write_thread, write_ticket};
 use lot_simulation::LineStyle;
 use std::io::Write;
@@ -18,37 +18,46 @@ use std::io::Write;
 /// Writes the line of an actor's turn that requests a listing, and the listing of the kernel at present: the number
 /// of rows, and a line for each, in ascending order.
 pub(crate) fn write_listing<W: Write>(
-    system: &mut System,
+    settled: Settled<'_>,
     style: LineStyle,
     actor: u32,
     kind: Kind,
     writer: &mut Watched<W>,
 ) -> Result<(), IoFault>
     requires { writer.old.failed ≡ false }
-    ensures same { system.new ≡ system.old }
-    ensures text { Writes W.contents writer.old writer.new result
+    ensures { Writes W.contents writer.old writer.new result
         (texts.front style ++ (decimal actor
-        ++ (codes " " ++ texts.listing_text style (world_of system.old).state kind))) }
+        ++ (codes " " ++ texts.listing_text style settled.entry.kernel.now.state kind))) }
 {
-    let rows = count_rows(system, kind);
+    let rows = count_rows(settled, kind);
     write_listing_line(writer, style, actor, kind, rows)?;
-    write_rows(system, style, kind, writer)
+    write_rows(settled, style, kind, writer)
 }
 
 /// The number of rows in the listing.
-fn count_rows(system: &mut System, kind: Kind) -> u32
-    ensures same { system.new ≡ system.old }
-    ensures count { result ≡ rows_among (world_of system.old).state kind
-        (given_count (world_of system.old).state kind) }
+fn count_rows(settled: Settled<'_>, kind: Kind) -> u32
+    ensures { result ≡ rows_among settled.entry.kernel.now.state kind
+        (given_count settled.entry.kernel.now.state kind) }
 {
     let first = first_number(kind);
     let mut rows: u32 = 0;
-    for place in 0..system.given_count(kind) {
-        if has_row(system, kind, first + place) {
+    for place in 0..given_count(settled, kind) {
+        if has_row(settled, kind, first + place) {
             rows += 1;
         }
     }
     rows
+}
+
+/// How many numbers of this kind have been given.
+fn given_count(settled: Settled<'_>, kind: Kind) -> u32
+    ensures { result ≡ given_count settled.entry.kernel.now.state kind }
+{
+    match kind {
+        Kind::Tickets => settled.kernel.ticket_count(),
+        Kind::Currencies => settled.kernel.currency_count(),
+        Kind::Threads => settled.kernel.thread_count(),
+    }
 }
 
 /// The first number of the kind: base is currency 0.
@@ -62,61 +71,58 @@ fn first_number(kind: Kind) -> u32
     }
 }
 
-fn has_row(system: &mut System, kind: Kind, number: u32) -> bool
-    ensures same { system.new ≡ system.old }
-    ensures row { result ≡ is_there (world_of system.old).state kind number }
+fn has_row(settled: Settled<'_>, kind: Kind, number: u32) -> bool
+    ensures { result ≡ is_there settled.entry.kernel.now.state kind number }
 {
     match kind {
-        Kind::Tickets => system.ticket_row(number).is_some(),
-        Kind::Currencies => system.currency_row(number).is_some(),
-        Kind::Threads => system.thread_row(number).is_some(),
+        Kind::Tickets => settled.ticket_row(TicketNumber { number }).is_some(),
+        Kind::Currencies => settled.currency_row(CurrencyNumber { number }).is_some(),
+        Kind::Threads => settled.thread_row(ThreadNumber { number }).is_some(),
     }
 }
 
 /// Writes the lines of the existing rows.
 fn write_rows<W: Write>(
-    system: &mut System,
+    settled: Settled<'_>,
     style: LineStyle,
     kind: Kind,
     writer: &mut Watched<W>,
 ) -> Result<(), IoFault>
     requires { writer.old.failed ≡ false }
-    ensures same { system.new ≡ system.old }
-    ensures text { Writes W.contents writer.old writer.new result
-        (flat_map (row_line style (world_of system.old).state kind)
-        (range_with_len (listing.first_number kind) (given_count (world_of system.old).state kind))) }
+    ensures { Writes W.contents writer.old writer.new result
+        (flat_map (row_line style settled.entry.kernel.now.state kind)
+        (range_with_len (listing.first_number kind) (given_count settled.entry.kernel.now.state kind))) }
 {
     let first = first_number(kind);
-    for place in 0..system.given_count(kind) {
-        write_row(system, style, kind, first + place, writer)?;
+    for place in 0..given_count(settled, kind) {
+        write_row(settled, style, kind, first + place, writer)?;
     }
     Ok(())
 }
 
 /// Writes the line of the row with this number, if it exists.
 fn write_row<W: Write>(
-    system: &mut System,
+    settled: Settled<'_>,
     style: LineStyle,
     kind: Kind,
     number: u32,
     writer: &mut Watched<W>,
 ) -> Result<(), IoFault>
     requires { writer.old.failed ≡ false }
-    ensures same { system.new ≡ system.old }
-    ensures text { Writes W.contents writer.old writer.new result
-        (row_line style (world_of system.old).state kind number) }
+    ensures { Writes W.contents writer.old writer.new result
+        (row_line style settled.entry.kernel.now.state kind number) }
 {
-    let limits = system.limits();
+    let limits = settled.kernel.limits();
     match kind {
-        Kind::Tickets => match system.ticket_row(number) {
+        Kind::Tickets => match settled.ticket_row(TicketNumber { number }) {
             Some(row) => write_ticket(writer, style, limits, number, &row),
             None => Ok(()),
         },
-        Kind::Currencies => match system.currency_row(number) {
+        Kind::Currencies => match settled.currency_row(CurrencyNumber { number }) {
             Some(row) => write_currency(writer, style, limits, number, &row),
             None => Ok(()),
         },
-        Kind::Threads => match system.thread_row(number) {
+        Kind::Threads => match settled.thread_row(ThreadNumber { number }) {
             Some(row) => write_thread(writer, style, limits, number, &row),
             None => Ok(()),
         },

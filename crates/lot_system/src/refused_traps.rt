@@ -2,8 +2,8 @@
 ghost use Rattle.std.specs.Prelude.{◌≡◌};
 
 use crate::FirstFew;
-use lot_engine::System;
-use lot_machine::{Action, Event, Name, Outcome, Reply, TrapRefusal};
+use lot_engine::{Settled, System};
+use lot_machine::{Action, Event, Name, Outcome, Reply, ThreadNumber, TrapRefusal};
 use lot_playback::Turn;
 use lot_simulation::{MutexTrap, PortTrap, ScriptTrap};
 
@@ -32,10 +32,8 @@ struct Refused {
 }
 
 impl RefusedTrap {
-    /// The first refused trap like this one. The system has the thread's name.
-    fn of(system: &mut System, refused: Refused) -> RefusedTrap
-        ensures { system.new ≡ system.old }
-    {
+    /// The first refused trap like this one. The kernel has the thread's name.
+    fn of(settled: Settled<'_>, refused: Refused) -> RefusedTrap {
         let Refused {
             thread,
             trap,
@@ -43,7 +41,7 @@ impl RefusedTrap {
         } = refused;
         RefusedTrap {
             thread,
-            name: name_of(system, thread),
+            name: name_of(settled, thread),
             trap,
             refusal,
             times: 1,
@@ -100,7 +98,7 @@ pub(crate) fn note_trap(traps: &mut FirstFew<RefusedTrap>, system: &mut System, 
     };
     match place_of(traps, refused) {
         Some(place) => count_again(traps, place),
-        None if traps.has_room() => traps.add(RefusedTrap::of(system, refused)),
+        None if traps.has_room() => traps.add(RefusedTrap::of(system.settle(), refused)),
         None => traps.add_unlisted(),
     }
 }
@@ -166,9 +164,7 @@ pub(crate) fn note_new_thread(traps: &mut FirstFew<RefusedTrap>, thread: u32) {
 }
 
 /// The name of the thread with this number, if it has one.
-fn name_of(system: &mut System, thread: u32) -> Option<Name>
-    ensures { system.new ≡ system.old }
-{
-    let name = system.thread_row(thread)?.name;
+fn name_of(settled: Settled<'_>, thread: u32) -> Option<Name> {
+    let name = settled.thread_row(ThreadNumber { number: thread })?.name;
     if name.is_none() { None } else { Some(name) }
 }

@@ -12,8 +12,9 @@ ghost use Rattle.lot_io.specs.Writing.{Writes};
 ghost use Rattle.lot_system.specs.ReportTable.{thread_text};
 
 use crate::ReportForm;
-use lot_engine::System;
+use lot_engine::{Settled, System};
 use lot_io::{IoFault, Watched};
+use lot_machine::ThreadNumber;
 use lot_print::{
     ProcessorTotal, WholeTotal, write_processor_total, write_report_line, write_thread_record,
     write_thread_total, write_whole_total,
@@ -22,35 +23,33 @@ use std::io::Write;
 
 /// Writes each thread's line or row.
 pub(crate) fn write_threads<W: Write>(
-    system: &mut System,
+    settled: Settled<'_>,
     form: ReportForm,
     writer: &mut Watched<W>,
 ) -> Result<(), IoFault>
     requires { writer.old.failed ≡ false }
-    ensures same { system.new ≡ system.old }
-    ensures text { Writes W.contents writer.old writer.new result
-        (lines_for (thread_text form) (thread_row (world_of system.old).state)
-        (numbers (world_of system.old).state.records)) }
+    ensures { Writes W.contents writer.old writer.new result
+        (lines_for (thread_text form) (thread_row settled.entry.kernel.now.state)
+        (numbers settled.entry.kernel.now.state.records)) }
 {
-    for place in 0..system.thread_count() {
-        write_thread(system, form, place + 1, writer)?;
+    for place in 0..settled.kernel.thread_count() {
+        write_thread(settled, form, place + 1, writer)?;
     }
     Ok(())
 }
 
 /// Writes the line or the row of the thread with this number, if it exists.
 fn write_thread<W: Write>(
-    system: &mut System,
+    settled: Settled<'_>,
     form: ReportForm,
     number: u32,
     writer: &mut Watched<W>,
 ) -> Result<(), IoFault>
     requires { writer.old.failed ≡ false }
-    ensures same { system.new ≡ system.old }
-    ensures text { Writes W.contents writer.old writer.new result
-        (option_map_or (thread_text form number) (thread_row (world_of system.old).state number) []) }
+    ensures { Writes W.contents writer.old writer.new result
+        (option_map_or (thread_text form number) (thread_row settled.entry.kernel.now.state number) []) }
 {
-    let Some(row) = system.thread_row(number) else {
+    let Some(row) = settled.thread_row(ThreadNumber { number }) else {
         return Ok(());
     };
     match form {
@@ -117,7 +116,7 @@ pub fn write_report<W: Write>(system: &mut System, writer: &mut Watched<W>) -> R
         (reports.report system.old.setting.program system.old.history) }
 {
     write_report_line(writer)?;
-    write_threads(system, ReportForm::Lines, writer)?;
+    write_threads(system.settle(), ReportForm::Lines, writer)?;
     write_processors(system, writer)?;
     write_total(system, writer)
 }

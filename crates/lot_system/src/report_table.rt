@@ -91,7 +91,7 @@ fn write_scheduled<W: Write>(system: &mut System, writer: &mut Watched<W>) -> Re
         (scheduled_table (world_of system.old).state) }
 {
     write_header(writer, Columns::Totals)?;
-    report::write_threads(system, ReportForm::Table, writer)
+    report::write_threads(system.settle(), ReportForm::Table, writer)
 }
 
 /// Writes the table of a timed program: that of its currencies if the form says so, and otherwise that of its threads.

@@ -8,8 +8,8 @@ ghost use Rattle.lot_engine.specs.Seen.{world_of};
 use crate::lack::{Lack, lack_of};
 use crate::refused_traps::{is_refused_trap, note_new_thread, note_trap};
 use crate::{FirstFew, RefusedTrap};
-use lot_engine::System;
-use lot_machine::{Name, Refusal, Reply, Status, ThreadRow};
+use lot_engine::{Settled, System};
+use lot_machine::{MutexNumber, Name, Refusal, Reply, Status, ThreadNumber, ThreadRow};
 use lot_playback::Turn;
 use lot_simulation::EarlyEnd;
 use std::alloc::{AllocError, Global};
@@ -161,21 +161,21 @@ impl Warnings {
         ensures same { system.new ≡ system.old }
     {
         self.unmade = system.commands_left();
-        let is_over = is_over(system);
-        for place in 0..system.thread_count() {
-            if let Some(row) = system.thread_row(place + 1) {
-                self.note_thread(system, place + 1, row, is_over);
+        let settled = system.settle();
+        let is_over = is_over(settled);
+        for place in 0..settled.kernel.thread_count() {
+            if let Some(row) = settled.thread_row(ThreadNumber { number: place + 1 }) {
+                self.note_thread(settled, place + 1, row, is_over);
             }
         }
     }
 
     /// Records the warning, if any, about the thread with this number at the end; `is_over` tells whether no thread
     /// can run any more.
-    fn note_thread(&mut self, system: &mut System, number: u32, row: ThreadRow, is_over: bool)
+    fn note_thread(&mut self, settled: Settled<'_>, number: u32, row: ThreadRow, is_over: bool)
         ensures kept { (self.new.made ≡ self.old.made) × (self.new.refused ≡ self.old.refused)
             × (self.new.refused_traps ≡ self.old.refused_traps) × (self.new.unmade ≡ self.old.unmade)
             × (self.new.stopped ≡ self.old.stopped) }
-        ensures same { system.new ≡ system.old }
     {
         let ThreadRow {
             name,
@@ -184,10 +184,10 @@ impl Warnings {
             ..
         } = row;
         if status == Status::Ready && weight == 0 {
-            self.note_weightless(system, number, name);
-        } else if is_stuck(system, status, is_over) {
-            let server = server_name(system, status);
-            let owner = owner_of(system, status);
+            self.note_weightless(settled, number, name);
+        } else if is_stuck(settled, status, is_over) {
+            let server = server_name(settled, status);
+            let owner = owner_of(settled, status);
             self.waiting.add(StuckThread {
                 number,
                 name,
@@ -200,17 +200,16 @@ impl Warnings {
     }
 
     /// Records the warning about the Ready thread with this number and this name, which weighs nothing.
-    fn note_weightless(&mut self, system: &mut System, number: u32, name: Name)
+    fn note_weightless(&mut self, settled: Settled<'_>, number: u32, name: Name)
         ensures kept { (self.new.made ≡ self.old.made) × (self.new.refused ≡ self.old.refused)
             × (self.new.refused_traps ≡ self.old.refused_traps) × (self.new.unmade ≡ self.old.unmade)
             × (self.new.stopped ≡ self.old.stopped) }
-        ensures same { system.new ≡ system.old }
     {
         if !self.weightless.has_room() {
             self.weightless.add_unlisted();
             return;
         }
-        let lack = Some(lack_of(system, &name));
+        let lack = Some(lack_of(settled, &name));
         self.weightless.add(StuckThread {
             number,
             name,
@@ -239,11 +238,9 @@ fn no_stuck(alloc: Global) -> Result<(FirstFew<StuckThread>, FirstFew<StuckThrea
 }
 
 /// Whether no thread can run any more: none is Running, or Ready with a weight, or sleeps, since a sleep ends.
-fn is_over(system: &mut System) -> bool
-    ensures { system.new ≡ system.old }
-{
-    for place in 0..system.thread_count() {
-        if let Some(row) = system.thread_row(place + 1) {
+fn is_over(settled: Settled<'_>) -> bool {
+    for place in 0..settled.kernel.thread_count() {
+        if let Some(row) = settled.thread_row(ThreadNumber { number: place + 1 }) {
             if can_run(&row) {
                 return false;
             }
@@ -263,56 +260,46 @@ fn can_run(row: &ThreadRow) -> bool {
 
 /// Whether a thread with this status waits for good: for the reply of a server that has ended or the mutex of a thread
 /// that has, or, if no thread can run, for a mutex or a reply. A server that waits for calls doesn't count.
-fn is_stuck(system: &mut System, status: Status, is_over: bool) -> bool
-    ensures { system.new ≡ system.old }
-{
+fn is_stuck(settled: Settled<'_>, status: Status, is_over: bool) -> bool {
     match status {
-        Status::Served(server) => is_over || has_ended(system, server),
-        Status::Waiting(mutex) => is_over || has_dead_owner(system, mutex),
+        Status::Served(server) => is_over || has_ended(settled, server),
+        Status::Waiting(mutex) => is_over || has_dead_owner(settled, mutex),
         Status::Queued(_) => is_over,
         _ => false,
     }
 }
 
 /// Whether the thread with this number has ended.
-fn has_ended(system: &mut System, thread: u32) -> bool
-    ensures { system.new ≡ system.old }
-{
-    match system.thread_row(thread) {
+fn has_ended(settled: Settled<'_>, thread: u32) -> bool {
+    match settled.thread_row(ThreadNumber { number: thread }) {
         Some(row) => row.status == Status::Dead,
         None => false,
     }
 }
 
 /// Whether the thread that owns the mutex has ended.
-fn has_dead_owner(system: &mut System, mutex: u32) -> bool
-    ensures { system.new ≡ system.old }
-{
-    match system.owner(mutex) {
-        Some(owner) => has_ended(system, owner),
+fn has_dead_owner(settled: Settled<'_>, mutex: u32) -> bool {
+    match settled.kernel.owner(MutexNumber { number: mutex }) {
+        Some(owner) => has_ended(settled, owner),
         None => false,
     }
 }
 
 /// The name of the thread whose reply a thread with this status waits for, if it waits for one.
-fn server_name(system: &mut System, status: Status) -> Option<Name>
-    ensures { system.new ≡ system.old }
-{
+fn server_name(settled: Settled<'_>, status: Status) -> Option<Name> {
     match status {
-        Status::Served(server) => Some(system.thread_row(server)?.name),
+        Status::Served(server) => Some(settled.thread_row(ThreadNumber { number: server })?.name),
         _ => None,
     }
 }
 
 /// The owner of the mutex that a thread with this status waits for, if it waits for one.
-fn owner_of(system: &mut System, status: Status) -> Option<Owner>
-    ensures { system.new ≡ system.old }
-{
+fn owner_of(settled: Settled<'_>, status: Status) -> Option<Owner> {
     let Status::Waiting(mutex) = status else {
         return None;
     };
-    let number = system.owner(mutex)?;
-    let row = system.thread_row(number)?;
+    let number = settled.kernel.owner(MutexNumber { number: mutex })?;
+    let row = settled.thread_row(ThreadNumber { number })?;
     Some(Owner {
         number,
         name: row.name,

@@ -12,22 +12,17 @@ pub use Rattle.std.proofs.lemmas.List.Elements.{All-append, All-head, All-nil, A
 pub use Rattle.std.proofs.lemmas.List.Folds.{length-prefix_len}
 pub use Rattle.std.proofs.lemmas.List.FromFn.{map-range_with_len_more}
 pub use Rattle.std.proofs.lemmas.List.Sums.{prefix_len-le-length, prefix_len_passes, prefix_len_stops}
-pub use Rattle.std.proofs.lemmas.Result.{IfOk-from_err}
-pub use Rattle.std.specs.Bool.{then_some}
 pub use Rattle.std.specs.Char.{digit_value}
 pub use Rattle.std.specs.List.{onto_first, prefix_len, range_with_len, slice_split}
-pub use Rattle.std.specs.List.Sorted.{IsNonDecreasing}
 pub use Rattle.std.specs.Prelude.{All, IfErr, IsErr, IsErrAnd, IsTrue, MatchResult, OnOk, codes, is_some, nat_lt, position, sum_by}
-pub use Rattle.std.specs.Str.{bytes_eq}
 pub use Rattle.std.specs.Str.Parse.{digits_value, digits_value_after}
 pub use Rattle.std.specs.Vec.{vec_len}
 pub use Rattle.memchr.specs.Find.{IsFirstByte, is_byte}
-pub use Rattle.lot_machine.specs.Bounds.{IsBetween}
+pub use Rattle.lot_machine.proofs.Common.{bytes_eq, then_some}
 pub use Rattle.lot_machine.specs.Lottery.{mixed_seed}
-pub use Rattle.lot_machine.specs.declared.command.Command.{Command}
 pub use Rattle.lot_machine.specs.declared.command.Command.TheVariants.{MakeFunded, MakeTicket}
-pub use Rattle.lot_machine.specs.declared.sizes.Sizes.{Sizes}
 pub use Rattle.lot_simulation.proofs.ActorRuns.{length-actors_of}
+pub use Rattle.lot_simulation.proofs.Common.{IsNonDecreasing, Sizes}
 pub use Rattle.lot_simulation.specs.Grammar.{ActorRun, actors_of, add_line, add_named, add_naming, add_runs, body_after_header, body_line, header_in_order, header_line, is_after_seed, is_alone, is_full, is_given, is_late, names_ticket, phrase_inside, phrases_inside, phrases_of, program_in, read_line, read_lines, refused_on, run_of, script_line, script_names, stands_alone, whole_program, with_header_word, with_line, without_line}
 pub use Rattle.lot_simulation.specs.Lines.{is_comment, is_ignored, is_printable, lines_of, separates, tokens_of, with_first_byte, without_end}
 pub use Rattle.lot_simulation.specs.Reading.{NamedScript, OpenScript, Reading, actor_below, any_name, any_number, checked, each, each_pair, new_name, number_between, number_named, script_number, ◌>>=◌}
@@ -39,9 +34,8 @@ pub use Rattle.lot_simulation.specs.declared.input.InputRefusal.TheVariants.{Bad
 pub use Rattle.lot_simulation.specs.declared.input.ScriptWord.{ScriptWord}
 pub use Rattle.lot_simulation.specs.declared.separators.Separators.{Separators}
 pub use Rattle.lot_simulation.specs.declared.separators.Separators.TheVariants.{Blanks, Spaces}
+pub use Rattle.lot_program.proofs.Common.{AreSeeds, Command, IfOk-from_err, IsBetween, IsSeed}
 pub use Rattle.lot_program.proofs.SeedLemmas.{AreSeeds-own, range_with_len-push}
-pub use Rattle.lot_program.specs.Parts.{AreSeeds}
-pub use Rattle.lot_program.specs.Programs.{IsSeed}
 pub use Rattle.lot_text.specs.Alone.{new_name_alone, number_alone}
 pub use Rattle.lot_text.specs.Faults.{Fails, Gives, IsFaultOf, fault_on}
 pub use Rattle.lot_text.specs.Numbers.{within_64_bits}

@@ -10,3 +10,4 @@ pub mod RunLemmas
 pub mod ScriptLemmas
 pub mod TicketLemmas
 pub mod TokenLemmas
+pub mod Lemmas

@@ -10,3 +10,4 @@ pub mod Leads
 pub mod Ways
 pub mod Last
 pub mod Ending
+pub mod Lemmas

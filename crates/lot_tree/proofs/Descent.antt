@@ -1,12 +1,5 @@
 -- The descent that narrows the places in question, and where it ends.
-use Rattle.std.proofs.Common.{ℕ, suc, zero, ◌≡◌, ◌+◌, ◌-◌, ◌*◌, ◌/◌, ◌^◌, ◌<◌, ◌≤◌, List, [], ◌∷◌, length, sum, take, get_or, ap, sym, inl, inr, arith, refl, add-one}
-use Rattle.std.proofs.lemmas.List.{take_all}
-use Rattle.std.proofs.lemmas.List.Sums.{sum_by-cons, sum_by-take-le}
-use Rattle.std.proofs.lemmas.Bool.{cases_lt, lt-ltb, le-ltb}
-use Rattle.std.proofs.lemmas.Nat.{pow_pos, shr_split, mod_below}
-use Rattle.std.proofs.Math.Nat.{pow-suc, mul-le-mul_right}
-use Rattle.lot_machine.specs.Lottery.{IsFirstAbove, first_above, running_sums}
-use Rattle.lot_tree.specs.Sums.{ArePartialSumsAt}
+use Rattle.lot_tree.proofs.Common.{ArePartialSumsAt, IsFirstAbove, List, add-one, ap, arith, cases_lt, first_above, get_or, inl, inr, le-ltb, length, lt-ltb, mod_below, mul-le-mul_right, pow-suc, pow_pos, refl, running_sums, shr_split, suc, sum, sum_by-cons, sum_by-take-le, sym, take, take_all, zero, ℕ, [], ◌*◌, ◌+◌, ◌-◌, ◌/◌, ◌<◌, ◌^◌, ◌∷◌, ◌≡◌, ◌≤◌}
 use Rattle.lot_tree.proofs.Sums.{sum-take-le}
 use Rattle.lot_tree.proofs.Levels.{level-room}
 

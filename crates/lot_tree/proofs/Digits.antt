@@ -1,11 +1,5 @@
 -- Binary digits: how many there are, and the lowest ones that are 1.
-use Rattle.std.proofs.Common.{ℕ, suc, zero, max, sym, ap, ◌∙◌, bit_or, ◌/◌, ◌%◌, ◌≡◌, ◌+◌, ◌-◌, ◌*◌, ◌^◌, ◌<◌, ◌≤◌, arith}
-use Rattle.std.proofs.lemmas.Nat.{leading_length, or_shr, pow_pos}
-use Rattle.std.proofs.lemmas.Nat.Bits.{bit_at_or, bit_at_lowest, bit_at-suc}
-use Rattle.std.proofs.Math.Nat.{pow-suc}
-use Rattle.std.specs.Int.{bit_at}
-use Rattle.std.specs.Int.Bits.{or_self}
-use lib.Count.{count_leading_zeros}
+use Rattle.lot_tree.proofs.Common.{ap, arith, bit_at, bit_at-suc, bit_at_lowest, bit_at_or, bit_or, count_leading_zeros, leading_length, max, or_self, or_shr, pow-suc, pow_pos, suc, sym, zero, ℕ, ◌%◌, ◌*◌, ◌+◌, ◌-◌, ◌/◌, ◌<◌, ◌^◌, ◌∙◌, ◌≡◌, ◌≤◌}
 
 -- a number fits what its leading zeros leave of 64 digits, and not less
 pub digits_of : (n : ℕ) → n < 2 ^ 64 → (n < 2 ^ (64 - count_leading_zeros 64 n)) × (2 ^ (64 - count_leading_zeros 64 n) ≤ 2 * n + 1)

@@ -1,13 +1,5 @@
 -- What a write of one weight and of the partial sums over it leaves true, level by level.
-use Rattle.std.proofs.Common.{ℕ, suc, zero, ◌≡◌, ◌≢◌, ◌+◌, ◌-◌, ◌*◌, ◌/◌, ◌%◌, ◌^◌, ◌<◌, ◌≤◌, ◌⊎◌, inl, inr, List, length, sum, take, set, get_or, add-one, ap, sym, subst, bit_or, ◌∙◌, arith, refl, length-set, w64}
-use Rattle.std.proofs.lemmas.List.{get_or-set_same, get_or-set_other}
-use Rattle.std.proofs.lemmas.List.Sums.{sum_by-set, sum_by-take-le}
-use Rattle.std.proofs.lemmas.Bool.{cases_lt, cases_eq}
-use Rattle.std.proofs.lemmas.Nat.{pow-add, pow_pos, div-add-mod', div-mul-add, mod_below, same_from_place}
-use Rattle.std.proofs.lemmas.Nat.Bits.{bit_at_cat_low, bit_at_ones, bit_at-trailing_ones}
-use Rattle.std.specs.Int.{bit_at, trailing_ones}
-use Rattle.std.proofs.Math.Nat.{pow-suc, div-div-eq-div-mul, pow-le-pow_right, mul-le-mul_right}
-use Rattle.lot_tree.specs.Sums.{AreKept, ArePartialSumsAt, IsPartialSum, Kept}
+use Rattle.lot_tree.proofs.Common.{AreKept, ArePartialSumsAt, IsPartialSum, Kept, List, add-one, ap, arith, bit_at, bit_at-trailing_ones, bit_at_cat_low, bit_at_ones, bit_or, cases_eq, cases_lt, div-add-mod', div-div-eq-div-mul, div-mul-add, get_or, get_or-set_other, get_or-set_same, inl, inr, length, length-set, mod_below, mul-le-mul_right, pow-add, pow-le-pow_right, pow-suc, pow_pos, refl, same_from_place, set, subst, suc, sum, sum_by-set, sum_by-take-le, sym, take, trailing_ones, w64, zero, ℕ, ◌%◌, ◌*◌, ◌+◌, ◌-◌, ◌/◌, ◌<◌, ◌^◌, ◌∙◌, ◌≡◌, ◌≢◌, ◌≤◌, ◌⊎◌}
 use Rattle.lot_tree.proofs.Digits.{ones-least, or-next}
 use Rattle.lot_tree.proofs.Sums.{sum-take-le, sum-take-set, sum-take-set_past, weight-le}
 

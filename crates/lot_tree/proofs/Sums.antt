@@ -1,7 +1,5 @@
 -- The sum of the first weights of a list, and what a write leaves of it.
-use Rattle.std.proofs.Common.{ℕ, suc, zero, ◌≡◌, ◌+◌, ◌<◌, ◌≤◌, List, [], ◌∷◌, length, sum, take, set, get_or, ap, arith}
-use Rattle.std.proofs.lemmas.List.{take-take, take-set-le}
-use Rattle.std.proofs.lemmas.List.Sums.{sum_by-cons, sum_by-take-le, sum_by_more}
+use Rattle.lot_tree.proofs.Common.{List, ap, arith, get_or, length, set, suc, sum, sum_by-cons, sum_by-take-le, sum_by_more, take, take-set-le, take-take, zero, ℕ, [], ◌+◌, ◌<◌, ◌∷◌, ◌≡◌, ◌≤◌}
 
 -- more weights have no smaller sum
 pub sum-take-le : (ws : List ℕ) (m n : ℕ) → m ≤ n → sum (take m ws) ≤ sum (take n ws)

@@ -1,8 +1,5 @@
 -- How many partial sums a descent reads: at most one a level, and one at the top level.
-use Rattle.std.proofs.Common.{ℕ, suc, ◌≡◌, ◌+◌, ◌*◌, ◌^◌, ◌<◌, ◌≤◌, ◌⊎◌, inl, inr, arith, add-one}
-use Rattle.std.proofs.lemmas.Bool.{cases_lt}
-use Rattle.std.proofs.Math.Nat.{pow-suc, pow-le-pow_right}
-use Rattle.lot_tree.specs.Visits.{CountsReads, counted_up}
+use Rattle.lot_tree.proofs.Common.{CountsReads, add-one, arith, cases_lt, counted_up, inl, inr, pow-le-pow_right, pow-suc, suc, ℕ, ◌*◌, ◌+◌, ◌<◌, ◌^◌, ◌≡◌, ◌≤◌, ◌⊎◌}
 
 -- a descent that has read nothing is at its start
 pub record IsUncounted (digits level block reads : ℕ) : Type 0 where

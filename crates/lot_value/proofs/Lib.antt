@@ -24,3 +24,4 @@ pub mod Lending
 pub mod TwoChanges
 pub mod Amounts
 pub mod Applied
+pub mod Lemmas

@@ -4,8 +4,8 @@
 //! stale nodes in an order along the edges, so that it reads each edge into a stale node once, and counts these
 //! reads.
 //!
-//! A `ValuedGraph` holds a graph, its activity and its values together. `ValuedGraph::apply` makes one `GraphChange`, and
-//! makes stale the nodes that depend on it. Only `new` allocates memory.
+//! A `ValuedGraph` holds a graph, its activity and its values together. `ValuedGraph::apply` makes one `GraphChange`,
+//! and makes stale the nodes that depend on it. Only `new` allocates memory.
 //!
 //! Its tests stand in `lot_kernel_tests`.
 #![tactic(auto)]

@@ -22,8 +22,8 @@ ghost use Rattle.lot_value.specs.Counts.{counted_up};
 ghost use Rattle.lot_value.specs.Caches.{IsStale, IsOnce, Settles, edges_into_all, value_in};
 ghost use Rattle.lot_value.specs.Valued.{FollowsGraph, FollowsLives};
 ghost use Rattle.lot_value.specs.Changing.{CanApply, StaleBy, applied};
-ghost use Rattle.lot_value.specs.declared.change.GraphChange.TheVariants.{NewTicket, PutTicket, DropTicket, NewCurrency};
-ghost use Rattle.lot_value.specs.declared.change.GraphChange.TheVariants.{ReuseTicket, ReuseCurrency, DropCurrency};
+ghost use Rattle.lot_value.specs.declared.change.GraphChange.TheVariants.{NewTicket, PutTicket, DropTicket};
+ghost use Rattle.lot_value.specs.declared.change.GraphChange.TheVariants.{NewCurrency, ReuseTicket, ReuseCurrency, DropCurrency};
 ghost use Rattle.lot_value.specs.declared.change.GraphChange.TheVariants.{PutOwner};
 ghost use Rattle.lot_graph.specs.Changes.{with_lends, with_owners, with_tickets};
 

@@ -2,7 +2,7 @@
 
 use super::same::{check_same, check_same_at};
 use super::{opened, parsed};
-use lot_machine::{Command, Event, Refusal, Reply};
+use lot_machine::{Command, Event, Refusal, Reply, TicketNumber};
 use lot_system::System;
 use std::process::Abort;
 use std::test::*;
@@ -79,7 +79,8 @@ fn check_rows(rt: &impl Abort, system: &mut System) {
     for (made, wanted) in ROWS.iter().enumerate() {
         check_same_at(rt, &made, &next_row(rt, system), wanted);
     }
-    let wage = system.ticket_row(2).expect(rt, "a ticket");
+    let number = TicketNumber { number: 2 };
+    let wage = system.settle().ticket_row(number).expect(rt, "a ticket");
     check_same(rt, &wage.amount, &4);
 }
 

@@ -1,5 +1,4 @@
-use Rattle.lot_c.proofs.Common.{Counts, Reply, State, ap, arith, length, length-set, plain_reply, refl, state_after, step, step-limits, subst, sym, ◌<◌, ◌∙◌, ◌≡◌}
-use Rattle.lot_c.proofs.Runs.{meant-more, fault-more, written-step, done-more}
+use Rattle.lot_c.proofs.Lemmas.{Counts, Reply, State, ap, arith, done-more, fault-more, length, length-set, meant-more, plain_reply, refl, state_after, step, step-limits, subst, sym, written-step, ◌<◌, ◌∙◌, ◌≡◌}
 use Rattle.lot_c.proofs.events.answer_all.Goals as goal
 
 pub loop-i-init : goal.loop-i-init

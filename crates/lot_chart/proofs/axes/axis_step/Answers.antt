@@ -1,5 +1,4 @@
-use Rattle.lot_chart.proofs.Common.{steps, sym, ◌∙◌}
-use Rattle.lot_chart.proofs.Steps.{first-found, first-later}
+use Rattle.lot_chart.proofs.Lemmas.{first-found, first-later, steps, sym, ◌∙◌}
 use Rattle.lot_chart.proofs.axes.axis_step.Goals as goal
 
 pub returns-then-most-step-clause-exact : goal.returns-then-most-step-clause-exact

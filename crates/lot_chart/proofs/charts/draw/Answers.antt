@@ -1,6 +1,4 @@
-use Rattle.lot_chart.proofs.Common.{AreLinesOf, HaveDues, List, PlotLine, Standing, ap, lines_of, max, most_due, most_in, most_shown, subst, sym, top_at, ◌∙◌, ◌≡◌}
-use Rattle.lot_chart.proofs.MeterFacts.{lines-are}
-use Rattle.lot_chart.proofs.Whole.{chart-is}
+use Rattle.lot_chart.proofs.Lemmas.{AreLinesOf, HaveDues, List, PlotLine, Standing, ap, chart-is, lines-are, lines_of, max, most_due, most_in, most_shown, subst, sym, top_at, ◌∙◌, ◌≡◌}
 use Rattle.lot_chart.proofs.charts.draw.Goals as goal
 
 pub push_picture-requires-clause-lines : goal.push_picture-requires-clause-lines

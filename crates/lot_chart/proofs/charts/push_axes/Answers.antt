@@ -1,5 +1,4 @@
-use Rattle.lot_chart.proofs.Common.{command_marks, flat_map, frame, height_mark, highest, last_end, marks, on_ok_weaker, time_mark, time_marks, ◌++◌}
-use Rattle.lot_chart.proofs.Parts.{parts-two}
+use Rattle.lot_chart.proofs.Lemmas.{command_marks, flat_map, frame, height_mark, highest, last_end, marks, on_ok_weaker, parts-two, time_mark, time_marks, ◌++◌}
 use Rattle.lot_chart.proofs.charts.push_axes.Goals as goal
 
 pub returns : goal.returns

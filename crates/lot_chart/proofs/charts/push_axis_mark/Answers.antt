@@ -1,5 +1,4 @@
-use Rattle.lot_chart.proofs.Common.{codes, decimal, on_ok_weaker, tenths, ◌++◌}
-use Rattle.lot_chart.proofs.Parts.{parts-after, parts-two}
+use Rattle.lot_chart.proofs.Lemmas.{codes, decimal, on_ok_weaker, parts-after, parts-two, tenths, ◌++◌}
 use Rattle.lot_chart.proofs.charts.push_axis_mark.Goals as goal
 
 pub returns : goal.returns

@@ -1,5 +1,4 @@
-use Rattle.lot_chart.proofs.Common.{List, Option, ap, column_mark, flat_map, marked, refl, take, take_all, ℕ, ◌++◌, ◌∙◌, ◌≡◌}
-use Rattle.lot_chart.proofs.Parts.{parts-next}
+use Rattle.lot_chart.proofs.Lemmas.{List, Option, ap, column_mark, flat_map, marked, parts-next, refl, take, take_all, ℕ, ◌++◌, ◌∙◌, ◌≡◌}
 use Rattle.lot_chart.proofs.charts.push_command_marks.Goals as goal
 
 pub loop-mark-preserved : goal.loop-mark-preserved

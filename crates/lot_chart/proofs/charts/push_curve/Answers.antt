@@ -1,5 +1,4 @@
-use Rattle.lot_chart.proofs.Common.{codes, drawn_of, on_ok_weaker, points, stroke, ◌++◌}
-use Rattle.lot_chart.proofs.Parts.{parts-two}
+use Rattle.lot_chart.proofs.Lemmas.{codes, drawn_of, on_ok_weaker, parts-two, points, stroke, ◌++◌}
 use Rattle.lot_chart.proofs.charts.push_curve.Goals as goal
 
 pub returns : goal.returns

@@ -1,5 +1,4 @@
-use Rattle.lot_chart.proofs.Common.{curve, refl}
-use Rattle.lot_chart.proofs.Parts.{parts-next}
+use Rattle.lot_chart.proofs.Lemmas.{curve, parts-next, refl}
 use Rattle.lot_chart.proofs.charts.push_curves.Goals as goal
 
 pub loop-line-preserved : goal.loop-line-preserved

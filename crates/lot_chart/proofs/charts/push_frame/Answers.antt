@@ -1,5 +1,4 @@
-use Rattle.lot_chart.proofs.Common.{codes, heights_label, on_ok_weaker, ◌++◌}
-use Rattle.lot_chart.proofs.Parts.{parts-two}
+use Rattle.lot_chart.proofs.Lemmas.{codes, heights_label, on_ok_weaker, parts-two, ◌++◌}
 use Rattle.lot_chart.proofs.charts.push_frame.Goals as goal
 
 pub returns : goal.returns

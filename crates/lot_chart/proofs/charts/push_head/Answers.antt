@@ -1,5 +1,4 @@
-use Rattle.lot_chart.proofs.Common.{codes, decimal, escaped, on_ok_weaker, ◌++◌}
-use Rattle.lot_chart.proofs.Parts.{parts-after, parts-two}
+use Rattle.lot_chart.proofs.Lemmas.{codes, decimal, escaped, on_ok_weaker, parts-after, parts-two, ◌++◌}
 use Rattle.lot_chart.proofs.charts.push_head.Goals as goal
 
 pub returns : goal.returns

@@ -1,5 +1,4 @@
-use Rattle.lot_chart.proofs.Common.{ap, axis_step, height_mark, ◌*◌, ◌++◌, ◌∙◌}
-use Rattle.lot_chart.proofs.Parts.{parts-more}
+use Rattle.lot_chart.proofs.Lemmas.{ap, axis_step, height_mark, parts-more, ◌*◌, ◌++◌, ◌∙◌}
 use Rattle.lot_chart.proofs.charts.push_height_marks.Goals as goal
 
 pub loop-mark-preserved : goal.loop-mark-preserved

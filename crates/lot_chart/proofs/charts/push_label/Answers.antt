@@ -1,5 +1,4 @@
-use Rattle.lot_chart.proofs.Common.{leader, name_text, on_ok_weaker}
-use Rattle.lot_chart.proofs.Parts.{parts-two}
+use Rattle.lot_chart.proofs.Lemmas.{leader, name_text, on_ok_weaker, parts-two}
 use Rattle.lot_chart.proofs.charts.push_label.Goals as goal
 
 pub returns : goal.returns

@@ -1,5 +1,4 @@
-use Rattle.lot_chart.proofs.Common.{label, refl}
-use Rattle.lot_chart.proofs.Parts.{parts-next}
+use Rattle.lot_chart.proofs.Lemmas.{label, parts-next, refl}
 use Rattle.lot_chart.proofs.charts.push_labels.Goals as goal
 
 pub loop-line-preserved : goal.loop-line-preserved

@@ -1,5 +1,4 @@
-use Rattle.lot_chart.proofs.Common.{codes, escaped, name_of, on_ok_weaker, share_of, tenths, ◌++◌}
-use Rattle.lot_chart.proofs.Parts.{parts-after, parts-two}
+use Rattle.lot_chart.proofs.Lemmas.{codes, escaped, name_of, on_ok_weaker, parts-after, parts-two, share_of, tenths, ◌++◌}
 use Rattle.lot_chart.proofs.charts.push_name.Goals as goal
 
 pub returns : goal.returns

@@ -1,5 +1,4 @@
-use Rattle.lot_chart.proofs.Common.{List, ap, last_end, length, length-map, length-map-range_with_len, longest_name, on_ok_weaker, sample_count, sample_tick, sample_ticks, top_at, width_for, ℕ, ◌+◌, ◌∙◌}
-use Rattle.lot_chart.proofs.Whole.{picture-is}
+use Rattle.lot_chart.proofs.Lemmas.{List, ap, last_end, length, length-map, length-map-range_with_len, longest_name, on_ok_weaker, picture-is, sample_count, sample_tick, sample_ticks, top_at, width_for, ℕ, ◌+◌, ◌∙◌}
 use Rattle.lot_chart.proofs.charts.push_picture.Goals as goal
 
 pub push_due_curves-requires-clause-tops : goal.push_due_curves-requires-clause-tops

@@ -1,5 +1,4 @@
-use Rattle.lot_chart.proofs.Common.{across, codes, last_end, on_ok_weaker, tenths}
-use Rattle.lot_chart.proofs.Parts.{parts-after}
+use Rattle.lot_chart.proofs.Lemmas.{across, codes, last_end, on_ok_weaker, parts-after, tenths}
 use Rattle.lot_chart.proofs.charts.push_point_at.Goals as goal
 
 pub returns : goal.returns

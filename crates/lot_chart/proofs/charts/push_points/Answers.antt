@@ -1,5 +1,4 @@
-use Rattle.lot_chart.proofs.Common.{ap, get_or, point, sample_point, ◌++◌, ◌∙◌}
-use Rattle.lot_chart.proofs.Parts.{parts-sample}
+use Rattle.lot_chart.proofs.Lemmas.{ap, get_or, parts-sample, point, sample_point, ◌++◌, ◌∙◌}
 use Rattle.lot_chart.proofs.charts.push_points.Goals as goal
 
 pub loop-sample-preserved : goal.loop-sample-preserved

@@ -1,5 +1,4 @@
-use Rattle.lot_chart.proofs.Common.{codes, colour, on_ok_weaker, strokes, ◌++◌}
-use Rattle.lot_chart.proofs.Parts.{parts-two}
+use Rattle.lot_chart.proofs.Lemmas.{codes, colour, on_ok_weaker, parts-two, strokes, ◌++◌}
 use Rattle.lot_chart.proofs.charts.push_stroke.Goals as goal
 
 pub returns : goal.returns

@@ -1,5 +1,4 @@
-use Rattle.lot_chart.proofs.Common.{ap, arith, axis_step, flat_map, last_end, lead, map, mul-le, range_with_len, time_mark, time_mark_count, ◌*◌, ◌++◌, ◌+◌, ◌∙◌, ◌≡◌, ◌≤◌}
-use Rattle.lot_chart.proofs.Parts.{parts-more}
+use Rattle.lot_chart.proofs.Lemmas.{ap, arith, axis_step, flat_map, last_end, lead, map, mul-le, parts-more, range_with_len, time_mark, time_mark_count, ◌*◌, ◌++◌, ◌+◌, ◌∙◌, ◌≡◌, ◌≤◌}
 use Rattle.lot_chart.proofs.charts.push_time_marks.Goals as goal
 
 pub overflow_mul-mark : goal.overflow_mul-mark

@@ -1,5 +1,4 @@
-use Rattle.lot_chart.proofs.Common.{codes, due_points, on_ok_weaker, stroke, ◌++◌}
-use Rattle.lot_chart.proofs.Parts.{parts-two}
+use Rattle.lot_chart.proofs.Lemmas.{codes, due_points, on_ok_weaker, parts-two, stroke, ◌++◌}
 use Rattle.lot_chart.proofs.due_lines.push_due_curve.Goals as goal
 
 pub returns : goal.returns

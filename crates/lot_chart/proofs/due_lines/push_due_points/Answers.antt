@@ -1,5 +1,4 @@
-use Rattle.lot_chart.proofs.Common.{Curves, List, Ticks, ap, arith, due_height, due_point, flat_map, get_or, get_or-map, get_or-map-range_with_len, height_of, last_end, length, length-map, length-map-range_with_len, map, point_at, range_with_len, sample_count, sample_tick, sample_ticks, total_at, ℕ, ◌*◌, ◌++◌, ◌+◌, ◌<◌, ◌^◌, ◌∙◌, ◌≡◌}
-use Rattle.lot_chart.proofs.Parts.{parts-sample}
+use Rattle.lot_chart.proofs.Lemmas.{Curves, List, Ticks, ap, arith, due_height, due_point, flat_map, get_or, get_or-map, get_or-map-range_with_len, height_of, last_end, length, length-map, length-map-range_with_len, map, parts-sample, point_at, range_with_len, sample_count, sample_tick, sample_ticks, total_at, ℕ, ◌*◌, ◌++◌, ◌+◌, ◌<◌, ◌^◌, ◌∙◌, ◌≡◌}
 use Rattle.lot_chart.proofs.due_lines.push_due_points.Goals as goal
 
 module _ (curves : Curves) (ran : List ℕ) (is : ran ≡ map (total_at Ticks curves) (sample_ticks (last_end curves.stretches))) where

@@ -1,5 +1,4 @@
-use Rattle.lot_chart.proofs.Common.{arith, due_curve, length, refl, ◌<◌}
-use Rattle.lot_chart.proofs.Parts.{parts-next}
+use Rattle.lot_chart.proofs.Lemmas.{arith, due_curve, length, parts-next, refl, ◌<◌}
 use Rattle.lot_chart.proofs.due_lines.push_lines.Goals as goal
 
 pub push_due_curve-requires-clause-due : goal.push_due_curve-requires-clause-due

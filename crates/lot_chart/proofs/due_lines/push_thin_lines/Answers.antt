@@ -1,5 +1,4 @@
-use Rattle.lot_chart.proofs.Common.{codes, due_curve, flat_map, on_ok_weaker, ◌++◌}
-use Rattle.lot_chart.proofs.Parts.{parts-two}
+use Rattle.lot_chart.proofs.Lemmas.{codes, due_curve, flat_map, on_ok_weaker, parts-two, ◌++◌}
 use Rattle.lot_chart.proofs.due_lines.push_thin_lines.Goals as goal
 
 pub returns : goal.returns

@@ -1,5 +1,4 @@
-use Rattle.lot_chart.proofs.Common.{Curves, IfOk, IsSome, refl, subst, sym, ◌∙◌, ◌≡◌}
-use Rattle.lot_chart.proofs.NotedFacts.{timed-curves-are, untimed-curves-are}
+use Rattle.lot_chart.proofs.Lemmas.{Curves, IfOk, IsSome, refl, subst, sym, timed-curves-are, untimed-curves-are, ◌∙◌, ◌≡◌}
 use Rattle.lot_chart.proofs.gathering.gather.Goals as goal
 
 pub returns-in-None-clause-curves : goal.returns-in-None-clause-curves

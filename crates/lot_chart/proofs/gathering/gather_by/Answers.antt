@@ -1,5 +1,4 @@
-use Rattle.lot_chart.proofs.Common.{ap, ends_refused, refl, ◌||◌, ◌∙◌}
-use Rattle.lot_chart.proofs.Notes.{gathered}
+use Rattle.lot_chart.proofs.Lemmas.{ap, ends_refused, gathered, refl, ◌||◌, ◌∙◌}
 use Rattle.lot_chart.proofs.gathering.gather_by.Goals as goal
 
 pub names_at_end-requires-clause-program : goal.names_at_end-requires-clause-program

@@ -7,7 +7,7 @@ note_last-requires-clause-program c = ap (λ (s : Seen). s.setting.program) c.in
 pub returns-clause-names : goal.returns-clause-names
 returns-clause-names c =
     subst (λ (s : Seen). IfOk c.names_of.result (λ names. names.items ≡ names_by c.args.by (world_of s).state))
-    (c.note_last.ensures.same ∙ c.into_parts-system.ensures.system) c.names_of.ensures.names
+    (c.note_last.ensures.same ∙ c.into_parts-system.ensures.system) (rw c.settle.ensures.state at c.names_of.ensures.names)
 
 pub returns-clause-stopped : goal.returns-clause-stopped
 returns-clause-stopped c =

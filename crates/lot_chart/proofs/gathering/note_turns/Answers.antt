@@ -1,5 +1,4 @@
-use Rattle.std.proofs.Common.{arith, rules}
-use Rattle.lot_chart.proofs.Notes.{program-few}
+use Rattle.lot_chart.proofs.Lemmas.{arith, program-few, rules}
 use Rattle.lot_chart.proofs.gathering.note_turns.Goals as goal
 
 pub returns-clause-noted : goal.returns-clause-noted

@@ -1,5 +1,4 @@
-use Rattle.lot_chart.proofs.Common.{Stretch, ap, arith, filter, if◌then◌else◌, in_column, map, range_with_len, stands_below, sym, [], ◌++◌, ◌+◌, ◌-◌, ◌∙◌, ◌∷◌, ◌≡◌}
-use Rattle.lot_chart.proofs.Ran.{all-numbers, found-more}
+use Rattle.lot_chart.proofs.Lemmas.{Stretch, all-numbers, ap, arith, filter, found-more, if◌then◌else◌, in_column, map, range_with_len, stands_below, sym, [], ◌++◌, ◌+◌, ◌-◌, ◌∙◌, ◌∷◌, ◌≡◌}
 use Rattle.lot_chart.proofs.gathering.push_found.Goals.{then-has+in_ok-push_stretch, else-has}
 use Rattle.lot_chart.proofs.gathering.push_found.Goals as goal
 

@@ -1,5 +1,4 @@
-use Rattle.lot_chart.proofs.Common.{Answered, Expire, Stretch, ap, arith}
-use Rattle.lot_chart.proofs.Ran.{columns-pushed, on-both, on-ok, thread-pushed}
+use Rattle.lot_chart.proofs.Lemmas.{Answered, Expire, Stretch, ap, arith, columns-pushed, on-both, on-ok, thread-pushed}
 use Rattle.lot_chart.proofs.gathering.push_turn.Goals as goal
 
 pub returns-in-Thread-clause-turn : goal.returns-in-Thread-clause-turn

@@ -1,5 +1,4 @@
-use Rattle.lot_chart.proofs.Common.{HasFound, IsTrue, some-injective, stands_below, subst, sym, world_of, ◌↔◌, ◌∙◌}
-use Rattle.lot_chart.proofs.Ran.{runner-there}
+use Rattle.lot_chart.proofs.Lemmas.{HasFound, IsTrue, runner-there, some-injective, stands_below, subst, sym, world_of, ◌↔◌, ◌∙◌}
 use Rattle.lot_chart.proofs.gathering.search.Goals as goal
 
 pub find_above-requires-clause-thread : goal.find_above-requires-clause-thread

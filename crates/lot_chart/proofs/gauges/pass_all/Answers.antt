@@ -1,5 +1,4 @@
-use Rattle.lot_chart.proofs.Common.{Gauge, HasPassed, refl, subst, sym}
-use Rattle.lot_chart.proofs.Loops.{some-one}
+use Rattle.lot_chart.proofs.Lemmas.{Gauge, HasPassed, refl, some-one, subst, sym}
 use Rattle.lot_chart.proofs.gauges.pass_all.Goals as goal
 
 pub loop-place-preserved : goal.loop-place-preserved

@@ -1,5 +1,4 @@
-use Rattle.lot_chart.specs.Gauges.{HasPassed}
-use Rattle.lot_chart.proofs.Loops.{HaveSome}
+use Rattle.lot_chart.proofs.Lemmas.{HasPassed, HaveSome}
 use Rattle.lot_chart.proofs.gauges.pass_all.Given as goal
 
 -- the gauges passed so far have let the time pass

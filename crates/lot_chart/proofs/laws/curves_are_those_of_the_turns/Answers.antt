@@ -1,5 +1,4 @@
-use Rattle.std.proofs.Common.{refl}
-use Rattle.lot_chart.proofs.NotedFacts.{curves-are, timed-curves-are}
+use Rattle.lot_chart.proofs.Lemmas.{curves-are, refl, timed-curves-are}
 use Rattle.lot_chart.proofs.laws.curves_are_those_of_the_turns.Goals as goal
 
 pub returns-clause-thread : goal.returns-clause-thread

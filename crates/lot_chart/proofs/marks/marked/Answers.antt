@@ -1,5 +1,4 @@
-use Rattle.lot_chart.proofs.Common.{List, None, Option, ap, arith, drop, first_in, get_or, length, refl, subst, sym, take, take_all, take_at, ℕ, ◌++◌, ◌+◌, ◌<◌, ◌∙◌, ◌≡◌}
-use Rattle.lot_chart.proofs.FirstMarks.{first-next, marked-are}
+use Rattle.lot_chart.proofs.Lemmas.{List, None, Option, ap, arith, drop, first-next, first_in, get_or, length, marked-are, refl, subst, sym, take, take_all, take_at, ℕ, ◌++◌, ◌+◌, ◌<◌, ◌∙◌, ◌≡◌}
 use Rattle.lot_chart.proofs.marks.marked.Goals as goal
 
 pub loop-time-preserved : goal.loop-time-preserved

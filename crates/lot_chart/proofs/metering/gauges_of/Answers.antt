@@ -1,5 +1,4 @@
-use Rattle.lot_chart.proofs.Common.{Standing, ap, arith, get_or_default}
-use Rattle.lot_chart.proofs.MeterFacts.{new-one}
+use Rattle.lot_chart.proofs.Lemmas.{Standing, ap, arith, get_or_default, new-one}
 use Rattle.lot_chart.proofs.metering.gauges_of.Goals as goal
 
 pub loop-standing-preserved : goal.loop-standing-preserved

@@ -1,6 +1,4 @@
-use Rattle.lot_chart.proofs.Common.{By, Curves, IfOk, Interval, None, Option, Program, Some, ap, chart, curves_by, curves_within, dues_by, refl, subst, windowed, ℕ, ◌∙◌, ◌≡◌}
-use Rattle.lot_chart.proofs.Ran.{on-ok}
-use Rattle.lot_chart.proofs.Shows.{shows-plays}
+use Rattle.lot_chart.proofs.Lemmas.{By, Curves, IfOk, Interval, None, Option, Program, Some, ap, chart, curves_by, curves_within, dues_by, on-ok, refl, shows-plays, subst, windowed, ℕ, ◌∙◌, ◌≡◌}
 use Rattle.lot_chart.proofs.showing.chart_program.Goals as goal
 
 -- an interval and a window change nothing of what curves are by

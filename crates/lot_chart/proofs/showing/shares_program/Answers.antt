@@ -1,6 +1,4 @@
-use Rattle.lot_chart.proofs.Common.{ap, curves_of, curves_within, table, windowed, ◌∙◌}
-use Rattle.lot_chart.proofs.Ran.{on-ok}
-use Rattle.lot_chart.proofs.Shows.{shows-plays}
+use Rattle.lot_chart.proofs.Lemmas.{ap, curves_of, curves_within, on-ok, shows-plays, table, windowed, ◌∙◌}
 use Rattle.lot_chart.proofs.showing.shares_program.Goals as goal
 
 pub returns-in-Ok-clause-shown : goal.returns-in-Ok-clause-shown

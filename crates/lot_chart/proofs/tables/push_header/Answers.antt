@@ -1,5 +1,4 @@
-use Rattle.lot_chart.proofs.Common.{List, ap, codes, flat_map, newline, next_field, on_ok_weaker, take_all, ℕ, ◌++◌, ◌∙◌}
-use Rattle.lot_chart.proofs.Parts.{parts-next, parts-two}
+use Rattle.lot_chart.proofs.Lemmas.{List, ap, codes, flat_map, newline, next_field, on_ok_weaker, parts-next, parts-two, take_all, ℕ, ◌++◌, ◌∙◌}
 use Rattle.lot_chart.proofs.tables.push_header.Goals as goal
 
 pub loop-name-preserved : goal.loop-name-preserved

@@ -1,5 +1,4 @@
-use Rattle.lot_chart.proofs.Common.{List, ap, codes, decimal, figure_text, flat_map, get_or, newline, next_field, on_ok_weaker, refl, take_all, ℕ, ◌++◌, ◌∙◌}
-use Rattle.lot_chart.proofs.Parts.{parts-next, parts-two}
+use Rattle.lot_chart.proofs.Lemmas.{List, ap, codes, decimal, figure_text, flat_map, get_or, newline, next_field, on_ok_weaker, parts-next, parts-two, refl, take_all, ℕ, ◌++◌, ◌∙◌}
 use Rattle.lot_chart.proofs.tables.push_row.Goals as goal
 
 pub loop-figure-preserved : goal.loop-figure-preserved

@@ -1,5 +1,4 @@
-use Rattle.lot_chart.proofs.Common.{ap, last_end, row_at, row_line, rules, sample_tick, sampled_line, ◌++◌, ◌+◌, ◌∙◌, ◌≡◌}
-use Rattle.lot_chart.proofs.Parts.{parts-more}
+use Rattle.lot_chart.proofs.Lemmas.{ap, last_end, parts-more, row_at, row_line, rules, sample_tick, sampled_line, ◌++◌, ◌+◌, ◌∙◌, ◌≡◌}
 use Rattle.lot_chart.proofs.tables.push_rows.Goals as goal
 
 pub loop-sample-preserved : goal.loop-sample-preserved

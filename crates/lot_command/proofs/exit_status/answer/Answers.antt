@@ -1,10 +1,4 @@
-use Rattle.std.proofs.Common.{◌≡◌, sym, ◌∙◌, subst}
-use Rattle.std.specs.Prelude.{IfOk}
-use Rattle.lot_system.specs.declared.inputs.Played.{Played}
-use Rattle.lot_command.specs.declared.command_line.request.Request.TheVariants.{Run, Show}
-use Rattle.lot_command.specs.declared.command_line.request.Showing.{Showing}
-use Rattle.lot_command.specs.Statuses.{HasCome}
-use Rattle.lot_command.proofs.Statuses.{showing-is}
+use Rattle.lot_command.proofs.Lemmas.{HasCome, IfOk, Played, Run, Show, Showing, showing-is, subst, sym, ◌∙◌, ◌≡◌}
 use Rattle.lot_command.proofs.exit_status.answer.Goals as goal
 
 pub returns-in-Show : goal.returns-in-Show

@@ -1,7 +1,4 @@
-use Rattle.std.proofs.Common.{refl}
-use Rattle.std.specs.Result.{result_ok}
-use Rattle.lot_command.specs.Statuses.{HasCome}
-use Rattle.lot_command.proofs.Statuses.{if-ok, status-for}
+use Rattle.lot_command.proofs.Lemmas.{HasCome, if-ok, refl, result_ok, status-for}
 use Rattle.lot_command.proofs.exit_status.request_status.Goals as goal
 
 pub returns-clause-shown : goal.returns-clause-shown

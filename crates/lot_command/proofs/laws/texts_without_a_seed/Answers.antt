@@ -1,21 +1,6 @@
-use Rattle.std.proofs.Common.{◌≡◌, ℕ, Option, None, Result, Ok, Err, List, refl}
-use Rattle.lot_simulation.specs.declared.input.InputFault.{InputFault}
-use Rattle.lot_simulation.specs.Grammar.{program_in}
-use Rattle.lot_simulation.specs.Output.{output_of}
-use Rattle.lot_simulation.specs.Seeded.{seeded}
-use Rattle.lot_simulation.specs.World.{Program}
-use Rattle.lot_curves.specs.declared.by.By.TheVariants.{Currency, Thread}
-use Rattle.lot_curves.specs.declared.interval.Interval.{Interval}
-use Rattle.lot_curves.specs.declared.stretch.Measure.{Measure}
-use Rattle.lot_curves.specs.Curves.{curves_of}
-use Rattle.lot_explain.specs.declared.detail.Detail.{Detail}
-use Rattle.lot_explain.specs.Explained.{explained_of}
-use Rattle.lot_chart.specs.Charts.{chart}
-use Rattle.lot_chart.specs.Dues.{dues_by}
+use Rattle.lot_command.proofs.Common.{Currency, Detail, Err, InputFault, Interval, List, Measure, None, Ok, Option, Program, Result, Thread, chart, curves_of, dues_by, explained_of, output_of, program_in, refl, seeded, shown_of, table, view_of, ℕ, ◌≡◌}
 use Rattle.lot_chart.specs.Shown as charts
-use Rattle.lot_chart.specs.Tables.{table}
 use Rattle.lot_command.specs.declared.command_line.request.View.TheVariants as views
-use Rattle.lot_command.specs.Views.{shown_of, view_of}
 use Rattle.lot_command.proofs.laws.texts_without_a_seed.Goals as goal
 
 play-is : (title : List ℕ) (input : Result Program InputFault) → shown_of views.Play title (seeded None input) ≡ output_of input

@@ -1,13 +1,5 @@
 -- The free run was written; if the writer fails, a beginning of it.
-use Rattle.std.proofs.Common.{Ok, Err, sym, ap, subst}
-use Rattle.std.specs.Io.KnownBytes.{Appends}
-use Rattle.lot_simulation.specs.Output.{end_text}
-use Rattle.lot_simulation.specs.World.{Program}
-use Rattle.lot_io.specs.declared.fault.IoFault.{IoFault}
-use Rattle.lot_engine.specs.Seen.{Setting}
-use Rattle.lot_io.specs.Writing.{Begins}
-use Rattle.lot_command.specs.declared.run.InputRunFault.TheVariants.{Play}
-use Rattle.lot_command.specs.Running.{EndsRun}
+use Rattle.lot_command.proofs.Common.{Appends, Begins, EndsRun, Err, IoFault, Ok, Play, Program, Setting, ap, end_text, subst, sym}
 use Rattle.lot_command.proofs.run.run_program.Goals as goal
 
 pub returns-in-Ok-write_end-clause-run : goal.returns-in-Ok-write_end-clause-run

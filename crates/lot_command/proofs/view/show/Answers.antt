@@ -1,5 +1,4 @@
-use Rattle.lot_command.proofs.Statuses.{come-of}
-use Rattle.lot_command.specs.Views.{text_of}
+use Rattle.lot_command.proofs.Lemmas.{come-of, text_of}
 use Rattle.lot_command.proofs.view.show.Goals as goal
 
 pub returns-clause-came : goal.returns-clause-came

@@ -1,9 +1,4 @@
-use Rattle.std.proofs.Common.{◌≡◌, Ok, sym, ap}
-use Rattle.lot_simulation.specs.Grammar.{program_in}
-use Rattle.lot_simulation.specs.Seeded.{seeded}
-use Rattle.lot_command.proofs.GivenSeeds.{refused-shown}
-use Rattle.lot_command.proofs.Statuses.{on-any, played-stops, refused-stops}
-use Rattle.lot_system.specs.declared.warnings.Warnings.{Warnings}
+use Rattle.lot_command.proofs.Lemmas.{Ok, Warnings, ap, on-any, played-stops, program_in, refused-shown, refused-stops, seeded, sym, ◌≡◌}
 use Rattle.lot_command.proofs.view.show_bytes.Goals as goal
 
 pub returns-in-Err-Input-clause-shown : goal.returns-in-Err-Input-clause-shown

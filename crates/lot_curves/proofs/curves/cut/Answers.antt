@@ -1,6 +1,4 @@
-use Rattle.std.proofs.Common.{slice_set, ap, ◌∙◌}
-use Rattle.lot_curves.specs.Stretches.{stretch_between}
-use Rattle.lot_curves.proofs.Cuts.{changed-more}
+use Rattle.lot_curves.proofs.Lemmas.{ap, changed-more, slice_set, stretch_between, ◌∙◌}
 use Rattle.lot_curves.proofs.curves.cut.Goals as goal
 
 pub loop-place-preserved : goal.loop-place-preserved

@@ -1,5 +1,4 @@
-use Rattle.std.proofs.Common.{◌≡◌, ◌++◌, drop, map, take}
-use Rattle.lot_curves.specs.Stretches.{stretch_between}
+use Rattle.lot_curves.proofs.Common.{drop, map, stretch_between, take, ◌++◌, ◌≡◌}
 use Rattle.lot_curves.proofs.curves.cut.Given as goal
 
 -- the stretches passed so far are cut

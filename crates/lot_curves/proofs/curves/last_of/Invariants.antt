@@ -1,5 +1,4 @@
-use Rattle.std.proofs.Common.{◌≡◌, take}
-use Rattle.lot_curves.specs.Stretches.{last_end}
+use Rattle.lot_curves.proofs.Common.{last_end, take, ◌≡◌}
 use Rattle.lot_curves.proofs.curves.last_of.Given as goal
 
 abbrev pub invariant-loop-stretch : goal.invariant-loop-stretch

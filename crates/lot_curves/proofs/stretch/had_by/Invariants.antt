@@ -1,5 +1,4 @@
-use Rattle.std.proofs.Common.{◌≡◌, ◌≤◌, ◌*◌, ◌^◌, take}
-use Rattle.lot_curves.specs.Stretches.{stretches_of}
+use Rattle.lot_curves.proofs.Common.{stretches_of, take, ◌*◌, ◌^◌, ◌≡◌, ◌≤◌}
 use Rattle.lot_curves.specs.Windows as windows
 use Rattle.lot_curves.proofs.stretch.had_by.Given as goal
 

@@ -1,7 +1,5 @@
 -- The seed is that of as many steps as were taken, and one of the generator's values.
-use Rattle.std.proofs.Common.{◌≡◌}
-use Rattle.lot_machine.specs.Bounds.{IsBetween}
-use Rattle.lot_machine.specs.Lottery.{mixed_seed}
+use Rattle.lot_draw.proofs.Common.{IsBetween, mixed_seed, ◌≡◌}
 use Rattle.lot_draw.proofs.generator.mixed_seed.Given as goal
 
 abbrev pub invariant-loop : goal.invariant-loop

@@ -1,5 +1,4 @@
-use Rattle.lot_machine.specs.State.{value_of}
-use Rattle.lot_draw.proofs.Ready.{ready-drawn}
+use Rattle.lot_draw.proofs.Lemmas.{ready-drawn, value_of}
 use Rattle.lot_draw.proofs.laws.draws_are_among_the_ready.Goals as goal
 
 pub returns : goal.returns

@@ -1,7 +1,4 @@
-use Rattle.std.proofs.Common.{subst, sym}
-use Rattle.lot_value.specs.Caches.{Known}
-use Rattle.lot_draw.specs.Queued.{AreWeights}
-use Rattle.lot_draw.proofs.Weighing.{weights-stale}
+use Rattle.lot_draw.proofs.Lemmas.{AreWeights, Known, subst, sym, weights-stale}
 use Rattle.lot_draw.proofs.laws.weights_stay_where_more_is_stale.Goals as goal
 
 pub returns : goal.returns

@@ -1,6 +1,5 @@
 -- The running sum is that of the weights passed, and at most the number; the place that is sought is not among those.
-use Rattle.std.proofs.Common.{◌≡◌, ◌≤◌, ◌+◌, sum, drop}
-use Rattle.lot_machine.specs.Lottery.{first_above, running_sums}
+use Rattle.lot_draw.proofs.Common.{drop, first_above, running_sums, sum, ◌+◌, ◌≡◌, ◌≤◌}
 use Rattle.lot_draw.proofs.lottery.first_above.Given as goal
 
 abbrev pub invariant-loop-place : goal.invariant-loop-place

@@ -1,5 +1,4 @@
-use Rattle.std.proofs.Common.{sym}
-use Rattle.lot_engine.proofs.PlaceFacts.{place-same}
+use Rattle.lot_engine.proofs.Lemmas.{place-same, sym}
 use Rattle.lot_engine.proofs.places.deliver.Goals as goal
 
 pub returns-in_default-clause-delivered : goal.returns-in_default-clause-delivered

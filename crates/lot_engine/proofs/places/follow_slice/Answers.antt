@@ -1,5 +1,4 @@
-use Rattle.lot_engine.proofs.Common.{IsBetween, Option, Place, ap, delivered_to_place, length, set_number, subst, sym, ℕ, ◌∙◌, ◌≡◌}
-use Rattle.lot_engine.proofs.PlaceFacts.{delivered-set}
+use Rattle.lot_engine.proofs.Lemmas.{IsBetween, Option, Place, ap, delivered-set, delivered_to_place, length, set_number, subst, sym, ℕ, ◌∙◌, ◌≡◌}
 use Rattle.lot_engine.proofs.places.follow_slice.Goals as goal
 
 pub returns-in-Trapped-clause-follows : goal.returns-in-Trapped-clause-follows

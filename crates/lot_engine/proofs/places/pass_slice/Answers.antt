@@ -1,6 +1,5 @@
 -- The place that moves on is the thread's.
-use Rattle.lot_engine.proofs.Common.{Done, IsSlice, Place, ap, place_of, set_number, slice_between, subst, sym, ◌∙◌}
-use Rattle.lot_engine.proofs.PlaceFacts.{place-is, place-set}
+use Rattle.lot_engine.proofs.Lemmas.{Done, IsSlice, Place, ap, place-is, place-set, place_of, set_number, slice_between, subst, sym, ◌∙◌}
 use Rattle.lot_engine.proofs.places.pass_slice.Goals as goal
 
 pub returns-clause-slice : goal.returns-clause-slice

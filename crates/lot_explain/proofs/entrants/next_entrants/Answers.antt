@@ -1,5 +1,4 @@
-use Rattle.lot_explain.proofs.Common.{ap, arith, entrants_in, number_of, world_of, ◌∙◌}
-use Rattle.lot_explain.proofs.EventFacts.{event-given}
+use Rattle.lot_explain.proofs.Lemmas.{ap, arith, entrants_in, event-given, number_of, world_of, ◌∙◌}
 use Rattle.lot_explain.proofs.entrants.next_entrants.Goals as goal
 
 pub returns : goal.returns

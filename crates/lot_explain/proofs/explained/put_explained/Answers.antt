@@ -1,5 +1,4 @@
-use Rattle.lot_explain.proofs.Common.{Put, Seen, codes, decimal, front, funding_in, reply_text, subst, won_in, won_lines, world_of, ◌++◌, ◌∙◌}
-use Rattle.lot_explain.proofs.TurnFacts.{answered-text, ended-text, total-is}
+use Rattle.lot_explain.proofs.Lemmas.{Put, Seen, answered-text, codes, decimal, ended-text, front, funding_in, reply_text, subst, total-is, won_in, won_lines, world_of, ◌++◌, ◌∙◌}
 use Rattle.lot_explain.proofs.explained.put_explained.Goals as goal
 
 pub put_turn-requires-clause-total : goal.put_turn-requires-clause-total

@@ -1,5 +1,4 @@
-use Rattle.lot_explain.proofs.Common.{Err, codes, decimal, front, funding_in, reply_text, rules, won_in, won_lines, world_of, ◌++◌, ◌≡◌}
-use Rattle.lot_explain.proofs.TurnFacts.{begins-first, put-then}
+use Rattle.lot_explain.proofs.Lemmas.{Err, begins-first, codes, decimal, front, funding_in, put-then, reply_text, rules, won_in, won_lines, world_of, ◌++◌, ◌≡◌}
 use Rattle.lot_explain.proofs.explained.put_turn.Goals as goal
 
 pub returns-in_err-put_funding-clause-text : goal.returns-in_err-put_funding-clause-text

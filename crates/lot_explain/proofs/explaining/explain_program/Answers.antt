@@ -1,6 +1,5 @@
 -- The report is written after what explains the turns.
-use Rattle.lot_explain.proofs.Common.{Err, ends-well, err-is, explained_turns, fails-first, fails-last, last_report, program_turns, ◌≡◌}
-use Rattle.lot_explain.proofs.MadeTexts.{program-texts}
+use Rattle.lot_explain.proofs.Lemmas.{Err, ends-well, err-is, explained_turns, fails-first, fails-last, last_report, program-texts, program_turns, ◌≡◌}
 use Rattle.lot_explain.proofs.explaining.explain_program.Goals as goal
 
 pub returns-in_err-explain_turns-clause-played : goal.returns-in_err-explain_turns-clause-played

@@ -1,5 +1,4 @@
-use Rattle.lot_explain.proofs.Common.{Seen, ap, arith, flat_map, length, lot_if_ready, numbers, range_with_len, world_of, ◌∙◌, ◌≡◌}
-use Rattle.lot_explain.proofs.GatheringFacts.{each-more, ready-lots}
+use Rattle.lot_explain.proofs.Lemmas.{Seen, ap, arith, each-more, flat_map, length, lot_if_ready, numbers, range_with_len, ready-lots, world_of, ◌∙◌, ◌≡◌}
 use Rattle.lot_explain.proofs.gathering.push_all_ready.Goals as goal
 
 pub loop-place-preserved : goal.loop-place-preserved

@@ -1,5 +1,4 @@
-use Rattle.lot_explain.proofs.Common.{append-nil, sym, world_of}
-use Rattle.lot_explain.proofs.RowFacts.{idle-other}
+use Rattle.lot_explain.proofs.Lemmas.{append-nil, idle-other, sym, world_of}
 use Rattle.lot_explain.proofs.gathering.push_if_ready.Goals as goal
 
 pub returns-in_default-clause-lots : goal.returns-in_default-clause-lots

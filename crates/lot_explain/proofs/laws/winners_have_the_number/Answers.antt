@@ -1,6 +1,4 @@
-use Rattle.lot_explain.proofs.Common.{Answered, Event, IfSome, Option, Program, Reply, Some, Won, World, ap, arith, lot_diagnostics, lots_of, number_in, subst, system_turn, total_of, won_in, ℕ, ◌++◌, ◌+◌, ◌∙◌, ◌∷◌, ◌≡◌}
-use Rattle.lot_explain.proofs.LineFacts.{lines-both}
-use Rattle.lot_explain.proofs.WonFacts.{IsOnly, turn-won}
+use Rattle.lot_explain.proofs.Lemmas.{Answered, Event, IfSome, IsOnly, Option, Program, Reply, Some, Won, World, ap, arith, lines-both, lot_diagnostics, lots_of, number_in, subst, system_turn, total_of, turn-won, won_in, ℕ, ◌++◌, ◌+◌, ◌∙◌, ◌∷◌, ◌≡◌}
 use Rattle.lot_explain.proofs.laws.winners_have_the_number.Goals as goal
 
 -- the winner is the only one

@@ -1,5 +1,4 @@
-use Rattle.lot_explain.proofs.Common.{Err, loan_line, rules, ◌≡◌}
-use Rattle.lot_explain.proofs.LineFacts.{texts-more, texts-stop}
+use Rattle.lot_explain.proofs.Lemmas.{Err, loan_line, rules, texts-more, texts-stop, ◌≡◌}
 use Rattle.lot_explain.proofs.lines.write_each_loan.Goals as goal
 
 pub returns-in_err-write_loan : goal.returns-in_err-write_loan

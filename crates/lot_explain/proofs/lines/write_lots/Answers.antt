@@ -1,5 +1,4 @@
-use Rattle.std.proofs.Common.{◌≡◌, Err, rules}
-use Rattle.lot_explain.proofs.LineFacts.{first-more, lines-more, lines-stop}
+use Rattle.lot_explain.proofs.Lemmas.{Err, first-more, lines-more, lines-stop, rules, ◌≡◌}
 use Rattle.lot_explain.proofs.lines.write_lots.Goals as goal
 
 pub returns-in_err-write_lot : goal.returns-in_err-write_lot

@@ -1,5 +1,4 @@
-use Rattle.lot_graph.proofs.Common.{Contains, IsFree, nodes_of, subst, sym, ◌≡◌}
-use Rattle.lot_graph.proofs.SpreadLemmas.{spread-push, spread-none, found-none, found-some, only-list}
+use Rattle.lot_graph.proofs.Lemmas.{Contains, IsFree, found-none, found-some, nodes_of, only-list, spread-none, spread-push, subst, sym, ◌≡◌}
 use Rattle.lot_graph.proofs.search.add.Goals as goal
 
 pub push_back-requires-clause-free : goal.push_back-requires-clause-free

@@ -1,5 +1,4 @@
-use Rattle.lot_graph.proofs.Common.{IsListOf, ap, node_place, some-injective, sym, ◌∙◌}
-use Rattle.lot_graph.proofs.SpreadLemmas.{spread-by}
+use Rattle.lot_graph.proofs.Lemmas.{IsListOf, ap, node_place, some-injective, spread-by, sym, ◌∙◌}
 use Rattle.lot_graph.proofs.search.add_node.Goals as goal
 
 pub returns-in-Some : goal.returns-in-Some

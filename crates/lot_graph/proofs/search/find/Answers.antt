@@ -1,6 +1,4 @@
-use Rattle.lot_graph.proofs.Common.{IsNext, IsNodeWithin, Spreads, arith, nodes_of, subst, sym, ◌∙◌}
-use Rattle.lot_graph.proofs.MirrorLemmas.{contains-at}
-use Rattle.lot_graph.proofs.SpreadLemmas.{followed-all, followed-end, followed-more, followed-start, found-low, list-back}
+use Rattle.lot_graph.proofs.Lemmas.{IsNext, IsNodeWithin, Spreads, arith, contains-at, followed-all, followed-end, followed-more, followed-start, found-low, list-back, nodes_of, subst, sym, ◌∙◌}
 use Rattle.lot_graph.proofs.search.find.Goals as goal
 
 pub loop-init : goal.loop-init

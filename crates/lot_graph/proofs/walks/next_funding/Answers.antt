@@ -1,5 +1,4 @@
-use Rattle.lot_graph.proofs.Common.{ap, arith, false, funding_edges, funds_at, is_funding, length, option_any, refl, sym, ℕ, ◌+◌, ◌<◌, ◌^◌, ◌∙◌, ◌≡◌}
-use Rattle.lot_graph.proofs.WalkLemmas.{all-rest, passed-over, first-low}
+use Rattle.lot_graph.proofs.Lemmas.{all-rest, ap, arith, false, first-low, funding_edges, funds_at, is_funding, length, option_any, passed-over, refl, sym, ℕ, ◌+◌, ◌<◌, ◌^◌, ◌∙◌, ◌≡◌}
 use Rattle.lot_graph.proofs.walks.next_funding.Goals as goal
 
 pub returns-then-is_funding-clause-low : goal.returns-then-is_funding-clause-low

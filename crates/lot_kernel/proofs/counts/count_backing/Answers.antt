@@ -1,5 +1,4 @@
-use Rattle.lot_kernel.proofs.Common.{Ticket, ap, arith, is_currency, length, option_any, sym, ◌<◌, ◌∙◌}
-use Rattle.lot_kernel.proofs.Counting.{count-passed, count-failed}
+use Rattle.lot_kernel.proofs.Lemmas.{Ticket, ap, arith, count-failed, count-passed, is_currency, length, option_any, sym, ◌<◌, ◌∙◌}
 use Rattle.lot_kernel.proofs.counts.count_backing.Goals.{then-is_backing, else-is_backing}
 use Rattle.lot_kernel.proofs.counts.count_backing.Goals as goal
 

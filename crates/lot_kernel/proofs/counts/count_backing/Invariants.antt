@@ -1,6 +1,5 @@
 -- Those counted and those among the tickets that are left are all.
-use Rattle.lot_kernel.proofs.Common.{backing_currency, is_currency, length, ◌+◌, ◌≡◌, ◌≤◌}
-use Rattle.lot_kernel.proofs.Counting.{count_after}
+use Rattle.lot_kernel.proofs.Lemmas.{backing_currency, count_after, is_currency, length, ◌+◌, ◌≡◌, ◌≤◌}
 use Rattle.lot_kernel.proofs.counts.count_backing.Given as goal
 
 abbrev pub invariant-loop-place : goal.invariant-loop-place

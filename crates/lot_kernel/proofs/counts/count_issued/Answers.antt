@@ -1,5 +1,4 @@
-use Rattle.lot_kernel.proofs.Common.{Ticket, ap, arith, length, option_any, sym, ◌<◌, ◌==◌, ◌∙◌}
-use Rattle.lot_kernel.proofs.Counting.{count-passed, count-failed}
+use Rattle.lot_kernel.proofs.Lemmas.{Ticket, ap, arith, count-failed, count-passed, length, option_any, sym, ◌<◌, ◌==◌, ◌∙◌}
 use Rattle.lot_kernel.proofs.counts.count_issued.Goals.{then-is_issued, else-is_issued}
 use Rattle.lot_kernel.proofs.counts.count_issued.Goals as goal
 

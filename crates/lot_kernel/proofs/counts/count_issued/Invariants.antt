@@ -1,6 +1,5 @@
 -- Those counted and those among the tickets that are left are all.
-use Rattle.lot_kernel.proofs.Common.{issued_in, length, ◌+◌, ◌==◌, ◌≡◌, ◌≤◌}
-use Rattle.lot_kernel.proofs.Counting.{count_after}
+use Rattle.lot_kernel.proofs.Lemmas.{count_after, issued_in, length, ◌+◌, ◌==◌, ◌≡◌, ◌≤◌}
 use Rattle.lot_kernel.proofs.counts.count_issued.Given as goal
 
 abbrev pub invariant-loop-place : goal.invariant-loop-place

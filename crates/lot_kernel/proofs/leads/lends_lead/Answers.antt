@@ -1,6 +1,4 @@
-use Rattle.lot_kernel.proofs.Common.{IsThere, None, Record, ap, arith, at_number, at_number-map, false, funding_in, is_none, is_some, lend_of, option_map, sym, true, ◌∙◌, ◌≡◌, ◌≢◌}
-use Rattle.lot_kernel.proofs.Refusing.{no-record, present}
-use Rattle.lot_kernel.proofs.Trapping.{lead-nobody, number-there, number-within, reaches-lead}
+use Rattle.lot_kernel.proofs.Lemmas.{IsThere, None, Record, ap, arith, at_number, at_number-map, false, funding_in, is_none, is_some, lead-nobody, lend_of, no-record, number-there, number-within, option_map, present, reaches-lead, sym, true, ◌∙◌, ◌≡◌, ◌≢◌}
 use Rattle.lot_kernel.proofs.leads.lends_lead.Goals as goal
 
 pub reaches-requires-clause-from : goal.reaches-requires-clause-from

@@ -1,5 +1,4 @@
-use Rattle.lot_kernel.proofs.Common.{None, YieldsList-from_filter, YieldsList-from_first, bytes_eq, length, min_from_yields_List, nodes_of, option_any, option_map_id, rules, slice_get, sym, tests, ◌∙◌}
-use Rattle.lot_kernel.proofs.Indexed.{bucket-of, least-first, meant-named, named-listed, no-bucket, none-meant}
+use Rattle.lot_kernel.proofs.Lemmas.{None, YieldsList-from_filter, YieldsList-from_first, bucket-of, bytes_eq, least-first, length, meant-named, min_from_yields_List, named-listed, no-bucket, nodes_of, none-meant, option_any, option_map_id, rules, slice_get, sym, tests, ◌∙◌}
 use Rattle.lot_kernel.proofs.names.currency_place.Goals as goal
 
 pub returns-in_err-places : goal.returns-in_err-places

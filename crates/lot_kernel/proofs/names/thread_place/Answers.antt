@@ -1,5 +1,4 @@
-use Rattle.lot_kernel.proofs.Common.{None, Thread, YieldsList-from_filter, YieldsList-from_first, bytes_eq, length, min_from_yields_List, names_of, nodes_of, option_any, option_map_id, rules, slice_get, sym, tests, ◌∙◌}
-use Rattle.lot_kernel.proofs.Indexed.{bucket-of, least-first, meant-named, named-listed, no-bucket, none-meant, thread-named}
+use Rattle.lot_kernel.proofs.Lemmas.{None, Thread, YieldsList-from_filter, YieldsList-from_first, bucket-of, bytes_eq, least-first, length, meant-named, min_from_yields_List, named-listed, names_of, no-bucket, nodes_of, none-meant, option_any, option_map_id, rules, slice_get, sym, tests, thread-named, ◌∙◌}
 use Rattle.lot_kernel.proofs.names.thread_place.Goals as goal
 
 pub returns-in_err-places : goal.returns-in_err-places

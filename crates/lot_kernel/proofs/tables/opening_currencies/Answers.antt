@@ -1,5 +1,4 @@
-use Rattle.std.proofs.Common.{[]}
-use Rattle.lot_kernel.proofs.Indexed.{next-free}
+use Rattle.lot_kernel.proofs.Lemmas.{next-free, []}
 use Rattle.lot_kernel.proofs.tables.opening_currencies.Goals as goal
 
 pub add-requires-clause-free : goal.add-requires-clause-free

@@ -1,5 +1,4 @@
-use Rattle.lot_kernel.proofs.Opening.{opens-threads}
-use Rattle.lot_machine.specs.State.{sizes_of}
+use Rattle.lot_kernel.proofs.Lemmas.{opens-threads, sizes_of}
 use Rattle.lot_kernel.proofs.tables.opening_threads.Goals as goal
 
 pub returns-clause-threads : goal.returns-clause-threads

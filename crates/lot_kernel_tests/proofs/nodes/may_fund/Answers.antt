@@ -1,6 +1,4 @@
-use Rattle.std.proofs.Common.{◌≡◌, not, true, false, refl, subst}
-use Rattle.lot_graph.specs.Graphs.{LimitedFunding, IsTarget}
-use Rattle.lot_value.proofs.Applied.{target-may}
+use Rattle.lot_kernel_tests.proofs.Common.{IsTarget, LimitedFunding, false, not, refl, subst, target-may, true, ◌≡◌}
 use Rattle.lot_kernel_tests.proofs.nodes.may_fund.Goals as goal
 
 pub returns-clause-target : goal.returns-clause-target

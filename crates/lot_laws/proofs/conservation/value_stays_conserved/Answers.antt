@@ -1,6 +1,4 @@
-use Rattle.lot_machine.specs.State.{funding_of, live_of}
-use Rattle.lot_laws.proofs.EachTicket.{reachable-amounts, reachable-order}
-use Rattle.lot_laws.proofs.Conserved.{conserved, few-lost, loses-most}
+use Rattle.lot_laws.proofs.Lemmas.{conserved, few-lost, funding_of, live_of, loses-most, reachable-amounts, reachable-order}
 use Rattle.lot_laws.proofs.conservation.value_stays_conserved.Goals as goal
 
 pub returns-clause-adds_up : goal.returns-clause-adds_up

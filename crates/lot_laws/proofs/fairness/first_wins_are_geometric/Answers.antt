@@ -1,5 +1,4 @@
-use Rattle.lot_laws.proofs.Common.{place_wins, sum, thread_wins, total_weight, weight_of}
-use Rattle.lot_laws.proofs.AllDraws.{first-wins, never-of, place-of, thread-of}
+use Rattle.lot_laws.proofs.Lemmas.{first-wins, never-of, place-of, place_wins, sum, thread-of, thread_wins, total_weight, weight_of}
 use Rattle.lot_laws.proofs.fairness.first_wins_are_geometric.Goals as goal
 
 pub returns-clause-place : goal.returns-clause-place

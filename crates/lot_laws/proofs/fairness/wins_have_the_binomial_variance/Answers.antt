@@ -1,5 +1,4 @@
-use Rattle.lot_laws.proofs.Common.{place_wins, sum, thread_wins, total_weight, weight_of}
-use Rattle.lot_laws.proofs.AllDraws.{spread-of, place-of, thread-of}
+use Rattle.lot_laws.proofs.Lemmas.{place-of, place_wins, spread-of, sum, thread-of, thread_wins, total_weight, weight_of}
 use Rattle.lot_laws.proofs.fairness.wins_have_the_binomial_variance.Goals as goal
 
 pub returns-clause-place : goal.returns-clause-place

@@ -1,5 +1,4 @@
-use Rattle.std.proofs.Common.{ℕ, ◌<◌, sym, subst}
-use Rattle.lot_laws.proofs.StaysInside.{run-inside, run-tickets, run-amounts}
+use Rattle.lot_laws.proofs.Lemmas.{run-amounts, run-inside, run-tickets, subst, sym, ℕ, ◌<◌}
 use Rattle.lot_laws.proofs.insulation.currencies_insulate.Goals as goal
 
 pub returns-clause-outside : goal.returns-clause-outside

@@ -1,5 +1,4 @@
-use Rattle.std.proofs.Common.{[], ◌∷◌}
-use Rattle.lot_laws.proofs.AmountsKept.{run-insulated}
+use Rattle.lot_laws.proofs.Lemmas.{run-insulated, [], ◌∷◌}
 use Rattle.lot_laws.proofs.insulation.events_are_insulated.Goals as goal
 
 pub returns-clause-event : goal.returns-clause-event

@@ -1,5 +1,4 @@
-use Rattle.lot_laws.proofs.StaysInside.{run-inside}
-use Rattle.lot_laws.proofs.Inflated.{fund-local, make-local, set-local, set-changes-inside}
+use Rattle.lot_laws.proofs.Lemmas.{fund-local, make-local, run-inside, set-changes-inside, set-local}
 use Rattle.lot_laws.proofs.insulation.inflation_is_local.Goals as goal
 
 pub returns-clause-fund : goal.returns-clause-fund

@@ -1,5 +1,4 @@
-use Rattle.lot_laws.proofs.EachTicket.{reachable-order}
-use Rattle.lot_laws.proofs.StaysInside.{well-formed, reachable-run}
+use Rattle.lot_laws.proofs.Lemmas.{reachable-order, reachable-run, well-formed}
 use Rattle.lot_laws.proofs.reachable.reachable_states_meet_the_premises.Goals as goal
 
 pub returns-clause-in_order : goal.returns-clause-in_order

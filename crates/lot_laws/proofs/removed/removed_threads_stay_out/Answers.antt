@@ -1,6 +1,4 @@
-use Rattle.std.proofs.Common.{◌∙◌, [], ap, sym, unwrap_or}
-use Rattle.lot_laws.proofs.EachTicket.{reachable-order}
-use Rattle.lot_laws.proofs.StayOut.{reachable-edges, stands-nowhere, stays-removed, record-stays}
+use Rattle.lot_laws.proofs.Lemmas.{ap, reachable-edges, reachable-order, record-stays, stands-nowhere, stays-removed, sym, unwrap_or, [], ◌∙◌}
 use Rattle.lot_laws.proofs.removed.removed_threads_stay_out.Goals as goal
 
 pub returns-clause-edges : goal.returns-clause-edges

@@ -1,6 +1,4 @@
-use Rattle.lot_laws.proofs.Common.{BadAmount, BadName, MakeCurrency, MakeFunded, MakeThread, MakeTicket, NameTaken, NoCurrency, NoScript, are_currencies_full, are_threads_full, are_tickets_full, command_effect, command_refusal, count_by, currencies-counted, currency_meant, inl, inr, is_bad_amount, is_name, is_no_script, is_none, is_some, is_taken, is_thread_name, not, or_cases, threads-counted, tickets-counted, true, [], ◌||◌, ◌∷◌, ◌≡◌, ◌≤◌, ◌⊎◌}
-use Rattle.lot_laws.proofs.EachTicket.{reachable-order}
-use Rattle.lot_laws.proofs.FullRefused.{last-fails, refusal-is}
+use Rattle.lot_laws.proofs.Lemmas.{BadAmount, BadName, MakeCurrency, MakeFunded, MakeThread, MakeTicket, NameTaken, NoCurrency, NoScript, are_currencies_full, are_threads_full, are_tickets_full, command_effect, command_refusal, count_by, currencies-counted, currency_meant, inl, inr, is_bad_amount, is_name, is_no_script, is_none, is_some, is_taken, is_thread_name, last-fails, not, or_cases, reachable-order, refusal-is, threads-counted, tickets-counted, true, [], ◌||◌, ◌∷◌, ◌≡◌, ◌≤◌, ◌⊎◌}
 use Rattle.lot_laws.proofs.reused.full_means_full.Goals as goal
 
 pub returns-clause-ticket : goal.returns-clause-ticket

@@ -1,5 +1,4 @@
-use Rattle.lot_machine.specs.State.{funding_of, live_of}
-use Rattle.lot_laws.proofs.Lending.{worth-nothing}
+use Rattle.lot_laws.proofs.Lemmas.{funding_of, live_of, worth-nothing}
 use Rattle.lot_laws.proofs.CallTaken.{server-gets, others-keep, together-same}
 use Rattle.lot_laws.proofs.transfers.calls_transfer_value.Goals as goal
 

@@ -1,6 +1,5 @@
-use Rattle.lot_laws.proofs.Common.{funding_of, live_of, step, step-order, value_of}
-use Rattle.lot_laws.proofs.Lending.{worth-nothing, comes-alone}
-use Rattle.lot_laws.proofs.Replied.{server-returns, caller-keeps, others-keep, together-same}
+use Rattle.lot_laws.proofs.Lemmas.{caller-keeps, comes-alone, funding_of, live_of, server-returns, step, step-order, value_of, worth-nothing}
+use Rattle.lot_laws.proofs.Replied.{others-keep, together-same}
 use Rattle.lot_laws.proofs.transfers.replies_return_value.Goals as goal
 
 pub returns-clause-server : goal.returns-clause-server

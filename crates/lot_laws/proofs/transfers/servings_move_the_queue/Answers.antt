@@ -1,5 +1,5 @@
-use Rattle.std.proofs.Common.{inl, inr}
-use Rattle.lot_laws.proofs.ServingMoves.{own-keeps, server-gains, server-frees, server-keeps, behind-loses, others-keep, together-same}
+use Rattle.lot_laws.proofs.Lemmas.{inl, inr, own-keeps, server-frees}
+use Rattle.lot_laws.proofs.ServingMoves.{server-gains, server-keeps, behind-loses, others-keep, together-same}
 use Rattle.lot_laws.proofs.transfers.servings_move_the_queue.Goals as goal
 
 pub returns-clause-own : goal.returns-clause-own

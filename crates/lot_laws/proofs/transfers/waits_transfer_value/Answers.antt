@@ -1,5 +1,4 @@
-use Rattle.lot_laws.proofs.Common.{funding_of, live_of, refl, step, value_of, []}
-use Rattle.lot_laws.proofs.Lending.{worth-nothing, comes-alone}
+use Rattle.lot_laws.proofs.Lemmas.{comes-alone, funding_of, live_of, refl, step, value_of, worth-nothing, []}
 use Rattle.lot_laws.proofs.MutexWait.{leads-gets, others-keep, together-same}
 use Rattle.lot_laws.proofs.transfers.waits_transfer_value.Goals as goal
 

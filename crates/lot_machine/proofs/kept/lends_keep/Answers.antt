@@ -1,5 +1,4 @@
-use Rattle.lot_machine.proofs.Common.{Nobody, refl}
-use Rattle.lot_machine.proofs.LendsKept.{HasNoCycle-lends_nobody, HasNoCycle-lends, HasNoCycle-lends_tested, HasNoCycle-lends_more}
+use Rattle.lot_machine.proofs.Lemmas.{HasNoCycle-lends, HasNoCycle-lends_more, HasNoCycle-lends_nobody, HasNoCycle-lends_tested, Nobody, refl}
 use Rattle.lot_machine.proofs.kept.lends_keep.Goals as goal
 
 pub returns-clause-nobody : goal.returns-clause-nobody

@@ -1,5 +1,4 @@
-use Rattle.std.proofs.Common.{[]}
-use Rattle.lot_machine.proofs.RecordsKept.{RunsApart-placed}
+use Rattle.lot_machine.proofs.Lemmas.{RunsApart-placed, []}
 use Rattle.lot_machine.proofs.kept.one_thread_more_keeps.Goals as goal
 
 pub returns : goal.returns

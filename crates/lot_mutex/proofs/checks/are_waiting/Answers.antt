@@ -1,8 +1,5 @@
-use Rattle.std.proofs.Common.{◌≡◌, Some, slice_index, take, refl, arith}
-use Rattle.std.specs.List.{Contains}
+use Rattle.lot_mutex.proofs.Lemmas.{Contains, Some, arith, queue-from, refl, slice_index, status_of, take, up-to, ◌≡◌}
 use Rattle.lot_machine.specs.declared.record.Status.TheVariants as status
-use Rattle.lot_machine.specs.State.{status_of}
-use Rattle.lot_mutex.proofs.Waiting.{up-to, queue-from}
 use Rattle.lot_mutex.proofs.checks.are_waiting.Goals as goal
 
 pub loop-place-preserved : goal.loop-place-preserved

@@ -1,8 +1,6 @@
 -- Those that came before wait, and none stands at two places.
-use Rattle.std.proofs.Common.{◌≡◌, ℕ, ◌<◌, Some, slice_index, take}
-use Rattle.std.specs.List.{Contains}
+use Rattle.lot_mutex.proofs.Common.{Contains, Some, slice_index, status_of, take, ℕ, ◌<◌, ◌≡◌}
 use Rattle.lot_machine.specs.declared.record.Status.TheVariants as status
-use Rattle.lot_machine.specs.State.{status_of}
 use Rattle.lot_mutex.proofs.checks.are_waiting.Given as goal
 
 abbrev pub invariant-loop-place : goal.invariant-loop-place

@@ -1,9 +1,4 @@
-use Rattle.std.proofs.Common.{◌≡◌, ℕ, suc, ◌+◌, length, ap, subst, refl, arith}
-use Rattle.lot_machine.specs.Funding.{owner_of}
-use Rattle.lot_machine.specs.Mutexes.{mutex_at}
-use Rattle.lot_graph.specs.Graphs.{LimitedFunding}
-use Rattle.lot_threads.specs.Threaded.{funding_in}
-use Rattle.lot_mutex.proofs.Owners.{owners-same}
+use Rattle.lot_mutex.proofs.Lemmas.{LimitedFunding, ap, arith, funding_in, length, mutex_at, owner_of, owners-same, refl, subst, suc, ℕ, ◌+◌, ◌≡◌}
 use Rattle.lot_mutex.proofs.checks.have_same_owners.Goals as goal
 
 pub returns : goal.returns

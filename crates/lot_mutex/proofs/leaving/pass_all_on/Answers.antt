@@ -1,5 +1,4 @@
-use Rattle.std.proofs.Common.{◌∙◌, ◌<◌, arith, length, sym}
-use Rattle.lot_mutex.proofs.PassedOn.{owner-differs, owner-same, still-counted, turn-apart, turn-mine, turn-other}
+use Rattle.lot_mutex.proofs.Lemmas.{arith, length, owner-differs, owner-same, still-counted, sym, turn-apart, turn-mine, turn-other, ◌<◌, ◌∙◌}
 use Rattle.lot_mutex.proofs.leaving.pass_all_on.Goals as goal
 use Rattle.lot_mutex.proofs.leaving.pass_all_on.Goals.{then-eq, else-eq}
 

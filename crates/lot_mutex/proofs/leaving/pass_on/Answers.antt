@@ -1,7 +1,4 @@
-use Rattle.std.proofs.Common.{◌∙◌, List, Some, sym, ap}
-use Rattle.lot_machine.specs.State.{Mutex}
-use Rattle.lot_queues.specs.QueueLists.{QueueLists, with_owner}
-use Rattle.lot_mutex.proofs.PassedOn.{first-passed}
+use Rattle.lot_mutex.proofs.Lemmas.{List, Mutex, QueueLists, Some, ap, first-passed, sym, with_owner, ◌∙◌}
 use Rattle.lot_mutex.proofs.leaving.pass_on.Goals as goal
 
 pub returns-clause-queues : goal.returns-clause-queues

@@ -1,6 +1,5 @@
 -- What those are worth who came before.
-use Rattle.std.proofs.Common.{◌≡◌, ◌≤◌, map, take, length}
-use Rattle.lot_threads.specs.Threaded.{worth_in}
+use Rattle.lot_mutex.proofs.Common.{length, map, take, worth_in, ◌≡◌, ◌≤◌}
 use Rattle.lot_mutex.proofs.lottery.list_worths.Given as goal
 
 abbrev pub invariant-loop-thread : goal.invariant-loop-thread

@@ -1,5 +1,4 @@
-use Rattle.std.proofs.Common.{◌∙◌, ℕ, Option, List, None, [], ap, refl}
-use Rattle.lot_mutex.proofs.Owners.{owners-after}
+use Rattle.lot_mutex.proofs.Lemmas.{List, None, Option, ap, owners-after, refl, ℕ, [], ◌∙◌}
 use Rattle.lot_mutex.proofs.mutexes.free.Goals as goal
 
 pub returns-clause-frees : goal.returns-clause-frees

@@ -1,8 +1,4 @@
-use Rattle.std.proofs.Common.{◌∙◌, Option, List, ℕ, ap, sym, refl, rules}
-use Rattle.std.specs.Option.{option_flatten}
-use Rattle.lot_machine.specs.Numbered.{at_number}
-use Rattle.lot_threads.proofs.Ways.{live-there, live-apart}
-use Rattle.lot_mutex.proofs.Owners.{owned-there, owner-at, free-owner, lock-waits, lock-takes}
+use Rattle.lot_mutex.proofs.Lemmas.{List, Option, ap, at_number, free-owner, live-apart, live-there, lock-takes, lock-waits, option_flatten, owned-there, owner-at, refl, rules, sym, ℕ, ◌∙◌}
 use Rattle.lot_mutex.proofs.mutexes.lock.Goals as goal
 
 pub returns-then-is_some-clause-trap : goal.returns-then-is_some-clause-trap

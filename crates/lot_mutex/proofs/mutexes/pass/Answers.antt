@@ -1,16 +1,5 @@
-use Rattle.std.specs.Option.{option_flatten}
-use Rattle.std.proofs.Common.{◌∙◌, ℕ, Option, Some, List, remove, ap, sym, refl}
-use Rattle.lot_machine.specs.declared.record.Record.{Record}
+use Rattle.lot_mutex.proofs.Lemmas.{List, Option, Record, Some, Threaded, ap, at_number, change_record, live-apart, live-other, live-same, live-status, live-there, mutex-passed, mutex_at, option_flatten, owned-there, owner-at, passed, passes-stale, refl, remove, status-now, status-other, status_of, sym, ℕ, ◌∙◌}
 use Rattle.lot_machine.specs.declared.record.Status.TheVariants as status
-use Rattle.lot_machine.specs.Mutexes.{mutex_at}
-use Rattle.lot_machine.specs.Numbered.{at_number}
-use Rattle.lot_machine.specs.State.{change_record, status_of}
-use Rattle.lot_machine.proofs.Queues.{status-now, status-other}
-use Rattle.lot_queues.proofs.Callers.{mutex-passed}
-use Rattle.lot_threads.specs.Threaded.{Threaded}
-use Rattle.lot_threads.proofs.Ways.{live-apart, live-other, live-status, live-there}
-use Rattle.lot_mutex.proofs.Owners.{owned-there, owner-at}
-use Rattle.lot_mutex.proofs.Passing.{live-same, passed, passes-stale}
 use Rattle.lot_mutex.proofs.mutexes.pass.Goals as goal
 
 -- the record of the thread that wakes

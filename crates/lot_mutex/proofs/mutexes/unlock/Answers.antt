@@ -1,18 +1,4 @@
-use Rattle.std.proofs.Common.{◌≡◌, ◌≢◌, ◌∙◌, Some, [], map, remove, slice_get, slice_index, ◌<◌, length, ap, sym, subst, refl, rules}
-use Rattle.std.specs.Option.{IfSome}
-use Rattle.std.proofs.lemmas.Option.{slice_get-get_or}
-use Rattle.lot_machine.specs.declared.drawn.Drawn.{Drawn}
-use Rattle.lot_machine.specs.declared.funding.Node.TheVariants.{Thread}
-use Rattle.lot_machine.specs.declared.reply.Outcome.TheVariants.{Freed, Passed}
-use Rattle.lot_machine.specs.Lottery.{winner}
-use Rattle.lot_machine.specs.Mutexes.{mutex_at, unlock}
-use Rattle.lot_machine.specs.Numbered.{set_number}
-use Rattle.lot_machine.specs.State.{status_of}
-use Rattle.lot_value.specs.declared.meter.Meter.{Meter}
-use Rattle.lot_threads.specs.Threaded.{Threaded, IsLiveIn, IsStaleIn, MakesStaleIn, worth_in}
-use Rattle.lot_mutex.specs.Listed.{IsMutexTrap, Listed}
-use Rattle.lot_mutex.proofs.Owners.{owners-after, passing, place-below, place_of, unlock-passes}
-use Rattle.lot_mutex.proofs.Passing.{next-owner, pass-threads, settled-makes}
+use Rattle.lot_mutex.proofs.Lemmas.{Drawn, Freed, IfSome, IsLiveIn, IsMutexTrap, IsStaleIn, Listed, MakesStaleIn, Meter, Passed, Some, Thread, Threaded, ap, length, map, mutex_at, next-owner, owners-after, pass-threads, passing, place-below, place_of, refl, remove, rules, set_number, settled-makes, slice_get, slice_get-get_or, slice_index, status_of, subst, sym, unlock, unlock-passes, winner, worth_in, [], ◌<◌, ◌∙◌, ◌≡◌, ◌≢◌}
 use Rattle.lot_mutex.proofs.mutexes.unlock.Goals as goal
 use Rattle.lot_mutex.proofs.mutexes.unlock.Goals.{After-picked-next}
 

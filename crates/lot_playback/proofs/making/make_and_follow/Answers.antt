@@ -1,8 +1,5 @@
 -- The turn is the one that is due, and the timekeeper has followed it.
-use Rattle.lot_playback.proofs.Common.{Answered, Answers, AreAlarms, CanFollow, CanFollowTurn, Due, Event, FollowsTurn, HasDues, HasDuesBefore, HasOthersAbove, IsAtTime, IsDue, IsFollowed, IsNext, IsTold, IsWithinBounds, Layout, NextTurn, Option, Program, Reply, Seen, Sleeper, Some, Timekeeper, ToldTurn, Turn, World, after_turn, alarms_after, alarms_in, answer_in, ap, arith, clocks_after, due_turn, is_idle_draw, length, moment_in, next_turns, opening, refl, room-small, rules, sleeper_on, subst, sym, system_turn, thread_on, timed_room, turn_due, turn_in, turns_done, vec_len, world_of, ℕ, [], ◌++◌, ◌+◌, ◌<◌, ◌^◌, ◌∙◌, ◌∷◌, ◌≡◌, ◌≤◌}
-use Rattle.lot_playback.proofs.TickFacts.{found-for, ran-on}
-use Rattle.lot_playback.proofs.ClockFacts.{time-due, time-made, time-more, time-there}
-use Rattle.lot_playback.proofs.FollowFacts.{answer-is, followed-more, one-next, room-few, turn-answers, within-room, world-more}
+use Rattle.lot_playback.proofs.Lemmas.{Answered, Answers, AreAlarms, CanFollow, CanFollowTurn, Due, Event, FollowsTurn, HasDues, HasDuesBefore, HasOthersAbove, IsAtTime, IsDue, IsFollowed, IsNext, IsTold, IsWithinBounds, Layout, NextTurn, Option, Program, Reply, Seen, Sleeper, Some, Timekeeper, ToldTurn, Turn, World, after_turn, alarms_after, alarms_in, answer-is, answer_in, ap, arith, clocks_after, due_turn, followed-more, found-for, is_idle_draw, length, moment_in, next_turns, one-next, opening, ran-on, refl, room-few, room-small, rules, sleeper_on, subst, sym, system_turn, thread_on, time-due, time-made, time-more, time-there, timed_room, turn-answers, turn_due, turn_in, turns_done, vec_len, within-room, world-more, world_of, ℕ, [], ◌++◌, ◌+◌, ◌<◌, ◌^◌, ◌∙◌, ◌∷◌, ◌≡◌, ◌≤◌}
 use Rattle.lot_playback.proofs.making.make_and_follow.Goals as goal
 
 module _ (seen : Seen) (timekeeper : Timekeeper) (there : IsAtTime seen timekeeper) (next : NextTurn) (is : IsNext (record { seen = seen; made = length seen.history }) next) (time : ℕ) (some : next.time ≡ Some time) (early : time < 2 ^ 32) where

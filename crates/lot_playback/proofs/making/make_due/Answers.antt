@@ -1,6 +1,5 @@
 -- The turn that is due is the timer's, if its actor is above the processors; its thread sleeps then.
-use Rattle.lot_playback.proofs.Common.{Due, IsBetween, IsDue, Seen, Timekeeper, after_turn, ap, arith, due-there, length, moment_in, refl, sym, turn_in, world_of, ◌+◌, ◌-◌, ◌<◌, ◌∙◌, ◌≡◌, ◌≤◌}
-use Rattle.lot_playback.proofs.AlarmFacts.{alarm-due, asleep-there, sleeper-numbered, sleeper-there}
+use Rattle.lot_playback.proofs.Lemmas.{Due, IsBetween, IsDue, Seen, Timekeeper, after_turn, alarm-due, ap, arith, asleep-there, due-there, length, moment_in, refl, sleeper-numbered, sleeper-there, sym, turn_in, world_of, ◌+◌, ◌-◌, ◌<◌, ◌∙◌, ◌≡◌, ◌≤◌}
 use Rattle.lot_playback.proofs.making.make_due.Goals as goal
 
 -- whom the timer wakes has a place in the table

@@ -1,5 +1,4 @@
-use Rattle.lot_playback.proofs.Common.{CurrencyTable, FoundNodes, IsAtTime, IsNext, MadeTurn, MakesTurn, Seen, Stage, Timekeeper, length, subst, sym, ◌∙◌, ◌≡◌}
-use Rattle.lot_playback.proofs.FollowFacts.{looked-followed}
+use Rattle.lot_playback.proofs.Lemmas.{CurrencyTable, FoundNodes, IsAtTime, IsNext, MadeTurn, MakesTurn, Seen, Stage, Timekeeper, length, looked-followed, subst, sym, ◌∙◌, ◌≡◌}
 use Rattle.lot_playback.proofs.making.make_in_time.Goals as goal
 
 -- what the search found is no part of the records of the turns made

@@ -1,6 +1,4 @@
-use Rattle.lot_playback.proofs.Common.{Answered, Bool, Event, IsAtPlace, IsEnded, IsFalse, IsNext, IsPlayed, IsTrue, MadeTurn, MakesTurn, NextTurn, None, Reply, Seen, after_turn, arith, false, not, refl, true, turn_in, ℕ, ◌+◌, ◌≡◌}
-use Rattle.lot_playback.proofs.MadeFacts.{counted-answered, counted-ended, ended-answer}
-use Rattle.lot_playback.proofs.PlaceFacts.{place-actor, place-below, place-made, place-more, place-room}
+use Rattle.lot_playback.proofs.Lemmas.{Answered, Bool, Event, IsAtPlace, IsEnded, IsFalse, IsNext, IsPlayed, IsTrue, MadeTurn, MakesTurn, NextTurn, None, Reply, Seen, after_turn, arith, counted-answered, counted-ended, ended-answer, false, not, place-actor, place-below, place-made, place-more, place-room, refl, true, turn_in, ℕ, ◌+◌, ◌≡◌}
 use Rattle.lot_playback.proofs.making.make_scheduled.Goals as goal
 
 pub overflow_add-place : goal.overflow_add-place

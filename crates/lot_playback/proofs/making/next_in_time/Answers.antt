@@ -1,6 +1,4 @@
-use Rattle.lot_playback.proofs.Common.{IfNone, None, Option, Program, Some, ap, arith, length, moment_in, next_due, refl, rules, sym, ◌<◌, ◌∙◌, ◌≡◌, ◌≤◌}
-use Rattle.lot_playback.proofs.ClockFacts.{time-next, time-none}
-use Rattle.lot_playback.proofs.FollowFacts.{full-next, none-made, none-next}
+use Rattle.lot_playback.proofs.Lemmas.{IfNone, None, Option, Program, Some, ap, arith, full-next, length, moment_in, next_due, none-made, none-next, refl, rules, sym, time-next, time-none, ◌<◌, ◌∙◌, ◌≡◌, ◌≤◌}
 use Rattle.lot_playback.proofs.making.next_in_time.Goals as goal
 
 always : {T : Type 0} {P : Type 0} (o : Option T) → P → IfNone o P

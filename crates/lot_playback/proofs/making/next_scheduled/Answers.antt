@@ -1,5 +1,4 @@
-use Rattle.lot_playback.proofs.Common.{List, None, Program, ap, arith, get_or, length, refl, sym, ℕ, ◌∙◌}
-use Rattle.lot_playback.proofs.PlaceFacts.{place-next, place-none}
+use Rattle.lot_playback.proofs.Lemmas.{List, None, Program, ap, arith, get_or, length, place-next, place-none, refl, sym, ℕ, ◌∙◌}
 use Rattle.lot_playback.proofs.making.next_scheduled.Goals as goal
 
 pub returns-then-schedule-place-clause-none : goal.returns-then-schedule-place-clause-none

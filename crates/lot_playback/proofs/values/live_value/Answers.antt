@@ -1,5 +1,4 @@
-use Rattle.lot_playback.proofs.Common.{Seen, ap, arith, live_part, refl, value_of, world_of, ◌+◌, ◌∙◌, ◌≡◌}
-use Rattle.lot_playback.proofs.ValueFacts.{value-more}
+use Rattle.lot_playback.proofs.Lemmas.{Seen, ap, arith, live_part, refl, value-more, value_of, world_of, ◌+◌, ◌∙◌, ◌≡◌}
 use Rattle.lot_playback.proofs.values.live_value.Goals as goal
 
 pub loop-place-preserved : goal.loop-place-preserved

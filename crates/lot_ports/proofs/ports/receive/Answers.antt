@@ -1,12 +1,4 @@
-use Rattle.std.proofs.Common.{◌∙◌, length, option_map, ap, sym, subst, arith}
-use Rattle.lot_machine.specs.Ports.{port_at}
-use Rattle.std.specs.List.{Contains}
-use Rattle.lot_queues.specs.QueueLists.{QueueLists, callers_at}
-use Rattle.lot_queues.specs.Calls.{queued_call}
-use Rattle.lot_threads.proofs.Ways.{live-counted, lends-to-live, may-lend-to}
-use Rattle.lot_threads.specs.Threaded.{funding_in}
-use Rattle.lot_machine.specs.declared.funding.Lend.TheVariants.{ToThread}
-use Rattle.lot_ports.proofs.Callers.{caller-first}
+use Rattle.lot_ports.proofs.Lemmas.{Contains, QueueLists, ToThread, ap, arith, caller-first, callers_at, funding_in, lends-to-live, length, live-counted, may-lend-to, option_map, port_at, queued_call, subst, sym, ◌∙◌}
 use Rattle.lot_ports.proofs.ports.receive.Goals as goal
 
 pub set_status-requires-clause-lend : goal.set_status-requires-clause-lend

@@ -1,5 +1,4 @@
-use Rattle.std.proofs.Common.{sym}
-use Rattle.lot_ports.proofs.Releasing.{released-start, released-step, fewer, counted}
+use Rattle.lot_ports.proofs.Lemmas.{counted, fewer, released-start, released-step, sym}
 use Rattle.lot_ports.proofs.ports.release_clients.Goals as goal
 
 pub loop-client-init : goal.loop-client-init

@@ -1,6 +1,4 @@
-use Rattle.std.proofs.Common.{length}
-use Rattle.lot_machine.specs.Ports.{clients_of}
-use Rattle.lot_ports.proofs.Releasing.{IsReleased}
+use Rattle.lot_ports.proofs.Lemmas.{IsReleased, clients_of, length}
 use Rattle.lot_ports.proofs.ports.release_clients.Given as goal
 
 abbrev pub invariant-loop-client : goal.invariant-loop-client

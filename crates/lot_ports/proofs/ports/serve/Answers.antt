@@ -1,12 +1,4 @@
-use Rattle.std.proofs.Common.{◌≡◌, ◌∙◌, Some, List, Contains, ap, rules, sym, subst, unwrap_or}
-use Rattle.lot_machine.specs.declared.record.Record.{Record}
-use Rattle.lot_machine.specs.declared.record.Status.TheVariants.{Ready}
-use Rattle.lot_machine.specs.Lends.{IsLive}
-use Rattle.lot_machine.specs.Ports.{first_client}
-use Rattle.lot_machine.specs.State.{live_in}
-use Rattle.lot_queues.specs.QueueLists.{QueueLists, IsNowhere, callers_at}
-use Rattle.lot_threads.specs.Threaded.{Threaded}
-use Rattle.lot_ports.proofs.Serving.{client-other, live-kept, makes-serving, nowhere-replied}
+use Rattle.lot_ports.proofs.Lemmas.{Contains, IsLive, IsNowhere, List, QueueLists, Ready, Record, Some, Threaded, ap, callers_at, client-other, first_client, live-kept, live_in, makes-serving, nowhere-replied, rules, subst, sym, unwrap_or, ◌∙◌, ◌≡◌}
 use Rattle.lot_ports.proofs.ports.serve.Goals as goal
 
 pub receive-receipt-requires-clause-server : goal.receive-receipt-requires-clause-server

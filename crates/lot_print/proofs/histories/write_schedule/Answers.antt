@@ -1,9 +1,4 @@
-use Rattle.std.proofs.Common.{◌≡◌, ◌<◌, ◌-◌, length, take, drop, Err, rules, refl, sym, ◌∙◌, arith}
-use Rattle.std.proofs.lemmas.Bool.{eqb-false}
-use Rattle.std.proofs.lemmas.List.{take_rest}
-use Rattle.lot_simulation.specs.Report.{schedule_line, schedule_lines}
-use Rattle.lot_print.proofs.GroupLemmas.{schedule_lines-first}
-use Rattle.lot_print.proofs.WritingFacts.{parts-more, parts-stop}
+use Rattle.lot_print.proofs.Lemmas.{Err, arith, drop, eqb-false, length, parts-more, parts-stop, refl, rules, schedule_line, schedule_lines, schedule_lines-first, sym, take, take_rest, ◌-◌, ◌<◌, ◌∙◌, ◌≡◌}
 use Rattle.lot_print.proofs.histories.write_schedule.Goals as goal
 
 pub returns-in_err-write_schedule_line : goal.returns-in_err-write_schedule_line

@@ -1,6 +1,4 @@
-use Rattle.std.proofs.Common.{◌≡◌, ℕ, false, List, ◌++◌, length}
-use Rattle.std.specs.Io.KnownBytes.{Appends}
-use Rattle.lot_simulation.specs.Report.{schedule_lines}
+use Rattle.lot_print.proofs.Common.{Appends, List, false, length, schedule_lines, ℕ, ◌++◌, ◌≡◌}
 use Rattle.lot_print.proofs.histories.write_schedule.Given as goal
 
 -- what was written so far, and the lines of the rest, are the lines of the whole

@@ -1,6 +1,4 @@
-use Rattle.std.proofs.Common.{◌≡◌, ◌≤◌, ◌+◌, ◌*◌, ◌++◌, codes, length, take}
-use Rattle.std.specs.List.{flat_map}
-use Rattle.lot_simulation.specs.Report.{actor_text}
+use Rattle.lot_print.proofs.Common.{actor_text, codes, flat_map, length, take, ◌*◌, ◌++◌, ◌+◌, ◌≡◌, ◌≤◌}
 use Rattle.lot_print.proofs.histories.write_schedule_line.Given as goal
 
 -- the actors passed so far are in the line

@@ -1,8 +1,4 @@
-use Rattle.std.proofs.Common.{◌≡◌, ◌++◌, codes, subst}
-use Rattle.std.specs.Fmt.{decimal}
-use Rattle.lot_simulation.specs.Texts.{fault_line, input_refusal_code, input_refusal_name, newline}
-use Rattle.lot_io.specs.Writing.{Written}
-use Rattle.lot_print.proofs.WritingFacts.{line-is}
+use Rattle.lot_print.proofs.Lemmas.{Written, codes, decimal, fault_line, input_refusal_code, input_refusal_name, line-is, newline, subst, ◌++◌, ◌≡◌}
 use Rattle.lot_print.proofs.refused.write_fault.Goals as goal
 
 pub returns : goal.returns

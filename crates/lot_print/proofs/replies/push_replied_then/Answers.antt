@@ -1,5 +1,4 @@
-use Rattle.std.proofs.Common.{ℕ, List, [], ◌∷◌, ◌++◌, ◌∙◌, ap, append_assoc, codes}
-use Rattle.std.specs.Fmt.{decimal}
+use Rattle.lot_print.proofs.Common.{List, ap, append_assoc, codes, decimal, ℕ, [], ◌++◌, ◌∙◌, ◌∷◌}
 use Rattle.lot_print.proofs.replies.push_replied_then.Goals as goal
 
 pub returns-clause-text : goal.returns-clause-text

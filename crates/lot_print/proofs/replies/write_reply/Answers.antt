@@ -1,7 +1,4 @@
-use Rattle.std.proofs.Common.{◌≡◌, ◌++◌, codes, Err, rules}
-use Rattle.std.specs.Fmt.{decimal}
-use Rattle.lot_simulation.specs.Texts.{front, plain_text}
-use Rattle.lot_print.proofs.PageFacts.{put-stop}
+use Rattle.lot_print.proofs.Lemmas.{Err, codes, decimal, front, plain_text, put-stop, rules, ◌++◌, ◌≡◌}
 use Rattle.lot_print.proofs.replies.write_reply.Goals as goal
 
 pub returns-in_err-make_room : goal.returns-in_err-make_room

@@ -1,7 +1,4 @@
-use Rattle.std.proofs.Common.{◌<◌, ◌≤◌, ℕ, zero, suc, List, drop, ap, ◌∙◌, arith}
-use Rattle.std.proofs.lemmas.List.{drop-drop}
-use Rattle.lot_simulation.specs.Grammar.{ActorRun}
-use Rattle.lot_simulation.specs.Report.{runs_in}
+use Rattle.lot_print.proofs.Common.{ActorRun, List, ap, arith, drop, drop-drop, runs_in, suc, zero, ℕ, ◌<◌, ◌∙◌, ◌≤◌}
 use Rattle.lot_print.proofs.runs.after_line.Goals as goal
 
 -- what comes after a part is shorter than the whole

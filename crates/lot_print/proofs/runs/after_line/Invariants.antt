@@ -1,5 +1,4 @@
-use Rattle.std.proofs.Common.{◌≡◌, ◌<◌, ◌≤◌, drop, length}
-use Rattle.lot_simulation.specs.Report.{runs_in}
+use Rattle.lot_print.proofs.Common.{drop, length, runs_in, ◌<◌, ◌≡◌, ◌≤◌}
 use Rattle.lot_print.proofs.runs.after_line.Given as goal
 
 abbrev pub invariant-loop-pair : goal.invariant-loop-pair

@@ -1,8 +1,4 @@
-use Rattle.std.proofs.Common.{eqb, ◌∙◌, rules, tests}
-use Rattle.std.proofs.lemmas.Iterator.{YieldsList-from_slice}
-use Rattle.std.proofs.lemmas.Iterator.Consumers.{count_from_yields_List}
-use Rattle.std.proofs.lemmas.Iterator.Search.{YieldsList-from_take_while}
-use Rattle.std.proofs.lemmas.List.Folds.{length-prefix_len}
+use Rattle.lot_print.proofs.Common.{YieldsList-from_slice, YieldsList-from_take_while, count_from_yields_List, eqb, length-prefix_len, rules, tests, ◌∙◌}
 use Rattle.lot_print.proofs.runs.len_of.Goals as goal
 
 pub returns-clause-turns : goal.returns-clause-turns

@@ -1,9 +1,4 @@
-use Rattle.std.proofs.Common.{◌≡◌, ◌+◌, ◌-◌, ℕ, List, ◌∷◌, take, drop, Err, rules, sym, ◌∙◌, ap}
-use Rattle.std.specs.List.{flat_map}
-use Rattle.lot_simulation.specs.Grammar.{ActorRun}
-use Rattle.lot_simulation.specs.Report.{run_text, runs_in}
-use Rattle.lot_print.proofs.RunLemmas.{run_texts-first}
-use Rattle.lot_print.proofs.WritingFacts.{parts-more, parts-stop}
+use Rattle.lot_print.proofs.Lemmas.{ActorRun, Err, List, ap, drop, flat_map, parts-more, parts-stop, rules, run_text, run_texts-first, runs_in, sym, take, ℕ, ◌+◌, ◌-◌, ◌∙◌, ◌∷◌, ◌≡◌}
 use Rattle.lot_print.proofs.runs.write_run_texts.Goals as goal
 
 pub returns-in_err-write_run : goal.returns-in_err-write_run

@@ -1,7 +1,4 @@
-use Rattle.std.proofs.Common.{◌≡◌, ◌-◌, ℕ, false, List, ◌++◌, take}
-use Rattle.std.specs.Io.KnownBytes.{Appends}
-use Rattle.std.specs.List.{flat_map}
-use Rattle.lot_simulation.specs.Report.{run_text, runs_in}
+use Rattle.lot_print.proofs.Common.{Appends, List, false, flat_map, run_text, runs_in, take, ℕ, ◌++◌, ◌-◌, ◌≡◌}
 use Rattle.lot_print.proofs.runs.write_run_texts.Given as goal
 
 -- what was written so far, and the runs of the rest that the line has room for, are those of the whole

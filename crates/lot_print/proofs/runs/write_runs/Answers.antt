@@ -1,9 +1,4 @@
-use Rattle.std.proofs.Common.{◌≡◌, ◌<◌, length, take, Err, rules, sym, ◌∙◌, arith}
-use Rattle.std.proofs.lemmas.Bool.{eqb-false}
-use Rattle.lot_simulation.specs.Report.{runs_in, runs_line, runs_lines}
-use Rattle.lot_print.proofs.GroupLemmas.{runs_lines-first}
-use Rattle.lot_print.proofs.RunLemmas.{runs_in-some}
-use Rattle.lot_print.proofs.WritingFacts.{parts-more, parts-stop}
+use Rattle.lot_print.proofs.Lemmas.{Err, arith, eqb-false, length, parts-more, parts-stop, rules, runs_in, runs_in-some, runs_line, runs_lines, runs_lines-first, sym, take, ◌<◌, ◌∙◌, ◌≡◌}
 use Rattle.lot_print.proofs.runs.write_runs.Goals as goal
 
 pub returns-in_err-write_runs_line : goal.returns-in_err-write_runs_line

@@ -1,7 +1,4 @@
-use Rattle.std.proofs.Common.{◌≡◌, ◌++◌, [], ◌∷◌, codes, take, Err, rules}
-use Rattle.std.specs.List.{flat_map}
-use Rattle.lot_simulation.specs.Report.{run_text, runs_in}
-use Rattle.lot_io.proofs.WritingFacts.{begins-front, begins-after, writes-after}
+use Rattle.lot_print.proofs.Common.{Err, begins-after, begins-front, codes, flat_map, rules, run_text, runs_in, take, writes-after, [], ◌++◌, ◌∷◌, ◌≡◌}
 use Rattle.lot_print.proofs.runs.write_runs_line.Goals as goal
 
 pub returns-in_err-write_bytes : goal.returns-in_err-write_bytes

@@ -1,9 +1,4 @@
-use Rattle.std.proofs.Common.{◌≡◌, codes, subst}
-use Rattle.std.specs.Fmt.{decimal}
-use Rattle.lot_print.specs.Listings.{used_text}
-use Rattle.lot_print.specs.Totals.{total_line}
-use Rattle.lot_io.specs.Writing.{Written}
-use Rattle.lot_print.proofs.WritingFacts.{line-is}
+use Rattle.lot_print.proofs.Lemmas.{Written, codes, decimal, line-is, subst, total_line, used_text, ◌≡◌}
 use Rattle.lot_print.proofs.totals.write_whole_total.Goals as goal
 
 pub returns : goal.returns

@@ -1,7 +1,5 @@
 -- A turn that isn't made leaves fewer than all.
-use Rattle.std.proofs.Common.{◌+◌, length, arith, ap, ◌∙◌}
-use Rattle.std.proofs.lemmas.Result.{err_from_is_err_and}
-use Rattle.lot_processors.proofs.BatonWork.{looked, made_then, refused_console, stopped}
+use Rattle.lot_processors.proofs.Lemmas.{ap, arith, err_from_is_err_and, length, looked, made_then, refused_console, stopped, ◌+◌, ◌∙◌}
 use Rattle.lot_processors.proofs.baton_workers.command_turns.Goals as goal
 
 pub returns-in_err-turn-clause-err : goal.returns-in_err-turn-clause-err

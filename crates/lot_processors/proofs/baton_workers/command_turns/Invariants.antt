@@ -1,5 +1,4 @@
-use Rattle.std.proofs.Common.{◌≡◌}
-use Rattle.lot_processors.specs.BatonWorkers.{HasMade}
+use Rattle.lot_processors.proofs.Common.{HasMade, ◌≡◌}
 use Rattle.lot_processors.proofs.baton_workers.command_turns.Given as goal
 
 abbrev pub invariant-loop-turn : goal.invariant-loop-turn

@@ -1,5 +1,4 @@
-use Rattle.std.proofs.Common.{◌≡◌, ◌<◌, ℕ, None, slice_index_or}
-use Rattle.lot_station.specs.BatonSeats.{Seat}
+use Rattle.lot_processors.proofs.Common.{None, Seat, slice_index_or, ℕ, ◌<◌, ◌≡◌}
 use Rattle.lot_processors.proofs.baton_workers.first_fault.Given as goal
 
 -- no seat before the place has a fault, and the seats are as they were

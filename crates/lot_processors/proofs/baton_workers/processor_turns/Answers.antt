@@ -1,9 +1,6 @@
 -- What was made before the loop, before a turn, and by it.
-use Rattle.std.proofs.Common.{◌≡◌, ◌+◌, ◌∙◌, refl, sym, subst, arith}
-use Rattle.std.proofs.lemmas.Result.{err_from_is_err_and}
-use Rattle.lot_engine.specs.Turns.{IsWorkOf}
-use Rattle.lot_processors.specs.BatonWorkers.{HasMade}
-use Rattle.lot_processors.proofs.BatonWork.{looked, made_then, none_made, stopped}
+use Rattle.lot_processors.proofs.Lemmas.{HasMade, IsWorkOf, arith, err_from_is_err_and, looked, made_then, refl, stopped, subst, sym, ◌+◌, ◌∙◌, ◌≡◌}
+use Rattle.lot_processors.proofs.BatonWork.{none_made}
 use Rattle.lot_processors.proofs.baton_workers.processor_turns.Goals as goal
 
 pub loop-made-init : goal.loop-made-init

@@ -1,7 +1,4 @@
-use Rattle.std.proofs.Common.{◌≡◌}
-use Rattle.lot_engine.specs.Turns.{IsWorkOf}
-use Rattle.lot_station.specs.Settings.{IsLegalIn}
-use Rattle.lot_processors.specs.BatonWorkers.{HasMade}
+use Rattle.lot_processors.proofs.Common.{HasMade, IsLegalIn, IsWorkOf, ◌≡◌}
 use Rattle.lot_processors.proofs.baton_workers.processor_turns.Given as goal
 
 abbrev pub invariant-loop-made : goal.invariant-loop-made

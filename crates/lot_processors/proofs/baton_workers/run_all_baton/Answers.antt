@@ -1,9 +1,5 @@
 -- What each worker did, and then the first fault.
-use Rattle.std.proofs.Common.{subst, refl, arith}
-use Rattle.lot_station.specs.BatonSeats.{Seat}
-use Rattle.lot_processors.proofs.BatonWork.{all_made, first_stops}
-use Rattle.lot_processors.specs.BatonWorkers.{HasWorked}
-use Rattle.lot_processors.specs.Workers.{EachSeat}
+use Rattle.lot_processors.proofs.Lemmas.{EachSeat, HasWorked, Seat, all_made, arith, first_stops, refl, subst}
 use Rattle.lot_processors.proofs.baton_workers.run_all_baton.Goals as goal
 
 pub returns-in-None-clause-ok : goal.returns-in-None-clause-ok

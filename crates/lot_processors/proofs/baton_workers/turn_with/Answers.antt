@@ -1,10 +1,6 @@
 -- A turn that is made is one more. A refused one makes none, and the work that it carries is tried, or was the last.
-use Rattle.std.proofs.Common.{◌∙◌, Option, subst, sym}
-use Rattle.std.proofs.lemmas.Result.{err_from_is_err_and}
-use Rattle.lot_engine.specs.declared.turn.Work.{Work}
-use Rattle.lot_engine.specs.Turns.{IsWorkOf, Matches}
-use Rattle.lot_processors.specs.Workers.{IsLastWork}
-use Rattle.lot_processors.proofs.BatonWork.{later-had, looked, made_then, refused, turned, unfit}
+use Rattle.lot_processors.proofs.Lemmas.{IsLastWork, IsWorkOf, Matches, Option, Work, err_from_is_err_and, later-had, looked, made_then, refused, subst, sym, unfit, ◌∙◌}
+use Rattle.lot_processors.proofs.BatonWork.{turned}
 use Rattle.lot_processors.proofs.baton_workers.turn_with.Goals as goal
 
 pub returns-in_err-slice-clause-err : goal.returns-in_err-slice-clause-err

@@ -1,9 +1,5 @@
 -- The seats were dealt by an empty system. They made all their turns, which are those of the history; or one was stopped first.
-use Rattle.std.proofs.Common.{◌≡◌, ◌≤◌, inl, inr, sym, ◌∙◌, ap, subst}
-use Rattle.lot_simulation.specs.World.{IsLegal}
-use Rattle.lot_engine.specs.Seen.{Setting}
-use Rattle.lot_processors.specs.Workers.{AllMade, fault_in}
-use Rattle.lot_processors.proofs.FreeRuns.{free_turns, has_others, still_in_order, was_stopped}
+use Rattle.lot_processors.proofs.Lemmas.{AllMade, IsLegal, Setting, ap, fault_in, free_turns, has_others, inl, inr, still_in_order, subst, sym, was_stopped, ◌∙◌, ◌≡◌, ◌≤◌}
 use Rattle.lot_processors.proofs.free_runs.run_system.Goals as goal
 
 pub returns-in-Ok-close-clause-history : goal.returns-in-Ok-close-clause-history

@@ -1,8 +1,6 @@
 -- A turn that is made is one more, and one that isn't leaves fewer than all.
-use Rattle.std.proofs.Common.{refl, length, arith, ap, ◌∙◌}
-use Rattle.std.proofs.lemmas.Result.{err_from_is_err_and}
-use Rattle.lot_station.specs.Holders.{Holder}
-use Rattle.lot_processors.proofs.SeatWork.{none_made, turned, refused_console, stopped}
+use Rattle.lot_processors.proofs.Lemmas.{Holder, ap, arith, err_from_is_err_and, length, none_made, refl, turned, ◌∙◌}
+use Rattle.lot_processors.proofs.SeatWork.{refused_console, stopped}
 use Rattle.lot_processors.proofs.workers.command_turns.Goals as goal
 
 pub loop-turn-init : goal.loop-turn-init

@@ -1,5 +1,4 @@
-use Rattle.std.proofs.Common.{◌≡◌, ◌<◌, ℕ, None, slice_index_or}
-use Rattle.lot_station.specs.Holders.{Holder}
+use Rattle.lot_processors.proofs.Common.{Holder, None, slice_index_or, ℕ, ◌<◌, ◌≡◌}
 use Rattle.lot_processors.proofs.workers.first_fault.Given as goal
 
 -- no seat before the place has a fault, and the seats are as they were

@@ -1,9 +1,6 @@
 -- What was made before a turn, and by it.
-use Rattle.std.proofs.Common.{refl, sym, subst, arith, ◌∙◌}
-use Rattle.std.proofs.lemmas.Result.{err_from_is_err_and}
-use Rattle.lot_engine.specs.Turns.{IsWorkOf}
-use Rattle.lot_station.specs.Settings.{AtSome}
-use Rattle.lot_processors.proofs.SeatWork.{made-then, none_made, stopped}
+use Rattle.lot_processors.proofs.Lemmas.{AtSome, IsWorkOf, arith, err_from_is_err_and, made-then, none_made, refl, subst, sym, ◌∙◌}
+use Rattle.lot_processors.proofs.SeatWork.{stopped}
 use Rattle.lot_processors.proofs.workers.processor_turns.Goals as goal
 
 pub loop-made-init : goal.loop-made-init

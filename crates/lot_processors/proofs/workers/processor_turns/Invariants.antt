@@ -1,6 +1,4 @@
-use Rattle.std.proofs.Common.{◌≡◌}
-use Rattle.lot_engine.specs.Turns.{IsWorkOf}
-use Rattle.lot_station.specs.Settings.{AtSome}
+use Rattle.lot_processors.proofs.Common.{AtSome, IsWorkOf, ◌≡◌}
 use Rattle.lot_processors.specs.Workers.{HasMade}
 use Rattle.lot_processors.proofs.workers.processor_turns.Given as goal
 

@@ -1,8 +1,7 @@
 -- What each worker did, and then the first fault.
-use Rattle.std.proofs.Common.{subst, refl, arith}
-use Rattle.lot_station.specs.Holders.{Holder}
+use Rattle.lot_processors.proofs.Common.{EachSeat, Holder, arith, refl, subst}
 use Rattle.lot_processors.proofs.SeatWork.{all_made, first_stops}
-use Rattle.lot_processors.specs.Workers.{EachSeat, HasWorked}
+use Rattle.lot_processors.specs.Workers.{HasWorked}
 use Rattle.lot_processors.proofs.workers.run_all.Goals as goal
 
 pub returns-in-None-clause-ok : goal.returns-in-None-clause-ok

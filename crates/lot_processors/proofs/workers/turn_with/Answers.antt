@@ -1,12 +1,7 @@
 -- A turn that is made is one more. A refused one leaves the seat, and the work that it carries is tried, or was the last.
-use Rattle.std.proofs.Common.{◌∙◌, Option, refl, subst, sym}
-use Rattle.std.proofs.lemmas.Result.{err_from_is_err_and}
-use Rattle.lot_engine.specs.declared.turn.Work.{Work}
-use Rattle.lot_engine.specs.Turns.{IsWorkOf, Matches}
-use Rattle.lot_station.specs.Holders.{Holder}
-use Rattle.lot_station.specs.Settings.{AtSome}
-use Rattle.lot_processors.specs.Workers.{HasMade, IsLastWork, StopsTurn}
-use Rattle.lot_processors.proofs.SeatWork.{later-had, none_made, refused, turned, unfit}
+use Rattle.lot_processors.proofs.Lemmas.{AtSome, Holder, IsLastWork, IsWorkOf, Matches, Option, StopsTurn, Work, err_from_is_err_and, none_made, refl, subst, sym, turned, ◌∙◌}
+use Rattle.lot_processors.specs.Workers.{HasMade}
+use Rattle.lot_processors.proofs.SeatWork.{later-had, refused, unfit}
 use Rattle.lot_processors.proofs.workers.turn_with.Goals as goal
 
 pub loop-init : goal.loop-init

@@ -1,7 +1,5 @@
 -- The currency's name stays while that of the thread is added.
-use Rattle.std.proofs.Common.{◌∙◌, sym}
-use Rattle.std.proofs.lemmas.Result.{IfOk-from_err}
-use Rattle.lot_program.proofs.PackedLemmas.{currency-kept, extends-self, extends-twice, reference-in}
+use Rattle.lot_program.proofs.Lemmas.{IfOk-from_err, currency-kept, extends-self, extends-twice, reference-in, sym, ◌∙◌}
 use Rattle.lot_program.proofs.packed.pack.Goals as goal
 
 pub returns-in_ok-pack_name-in-MakeFunded-clause-same : goal.returns-in_ok-pack_name-in-MakeFunded-clause-same

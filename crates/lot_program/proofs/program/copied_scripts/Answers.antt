@@ -1,6 +1,4 @@
-use Rattle.std.proofs.Common.{arith, sym, ◌∙◌}
-use Rattle.std.proofs.lemmas.List.{take_all, take_more}
-use Rattle.std.proofs.lemmas.Result.{IfOk-from_err}
+use Rattle.lot_program.proofs.Common.{IfOk-from_err, arith, sym, take_all, take_more, ◌∙◌}
 use Rattle.lot_program.proofs.program.copied_scripts.Goals as goal
 
 pub returns-in_err-copies : goal.returns-in_err-copies

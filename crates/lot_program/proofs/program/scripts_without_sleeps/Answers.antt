@@ -1,7 +1,4 @@
-use Rattle.std.proofs.Common.{arith, ap, map, sym, ◌∙◌, take, [], ◌∷◌}
-use Rattle.std.proofs.lemmas.List.{map-append, take_all, take_more}
-use Rattle.lot_simulation.specs.Script.{without_sleep}
-use Rattle.std.proofs.lemmas.Result.{IfOk-from_err}
+use Rattle.lot_program.proofs.Common.{IfOk-from_err, ap, arith, map, map-append, sym, take, take_all, take_more, without_sleep, [], ◌∙◌, ◌∷◌}
 use Rattle.lot_program.proofs.program.scripts_without_sleeps.Goals as goal
 
 pub returns-in_err-copies : goal.returns-in_err-copies

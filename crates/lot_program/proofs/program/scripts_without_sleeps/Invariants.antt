@@ -1,6 +1,4 @@
-use Rattle.std.proofs.Common.{◌≡◌, take}
-use Rattle.std.specs.Prelude.{map}
-use Rattle.lot_simulation.specs.Script.{without_sleep}
+use Rattle.lot_program.proofs.Common.{map, take, without_sleep, ◌≡◌}
 use Rattle.lot_program.proofs.program.scripts_without_sleeps.Given as goal
 
 -- those passed so far

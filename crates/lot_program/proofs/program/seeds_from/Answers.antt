@@ -1,10 +1,5 @@
 -- One more seed is the next, and the one after it is the next of the generator.
-use Rattle.std.proofs.Common.{rules, ◌≡◌, suc, ◌+◌, ◌-◌, ◌*◌, ◌%◌, [], ◌∷◌, ◌++◌, length, List, ℕ, sym, ◌∙◌, ap, subst, arith, length-append, append_assoc}
-use Rattle.std.specs.Prelude.{All}
-use Rattle.std.proofs.lemmas.List.Elements.{All-append, All-replicate}
-use Rattle.lot_simulation.specs.Seeded.{seeds_from}
-use Rattle.lot_machine.specs.Bounds.{IsBetween}
-use Rattle.lot_program.specs.Programs.{IsSeed}
+use Rattle.lot_program.proofs.Common.{All, All-append, All-replicate, IsBetween, IsSeed, List, ap, append_assoc, arith, length, length-append, rules, seeds_from, subst, suc, sym, ℕ, [], ◌%◌, ◌*◌, ◌++◌, ◌+◌, ◌-◌, ◌∙◌, ◌∷◌, ◌≡◌}
 use Rattle.lot_program.proofs.program.seeds_from.Goals as goal
 
 pub loop-preserved : goal.loop-preserved

@@ -1,7 +1,4 @@
-use Rattle.std.proofs.Common.{◌≡◌, ◌++◌, ◌-◌}
-use Rattle.lot_simulation.specs.Seeded.{seeds_from}
-use Rattle.lot_program.specs.Programs.{IsSeed}
-use Rattle.lot_program.specs.Parts.{AreSeeds}
+use Rattle.lot_program.proofs.Common.{AreSeeds, IsSeed, seeds_from, ◌++◌, ◌-◌, ◌≡◌}
 use Rattle.lot_program.proofs.program.seeds_from.Given as goal
 
 -- the seeds so far, and then those computed from the next, are all of them

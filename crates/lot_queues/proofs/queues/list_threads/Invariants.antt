@@ -1,5 +1,4 @@
-use Rattle.std.proofs.Common.{◌≡◌, ◌+◌, ◌++◌, map}
-use Rattle.lot_lists.specs.NodeLists.{nodes_of}
+use Rattle.lot_queues.proofs.Common.{map, nodes_of, ◌++◌, ◌+◌, ◌≡◌}
 use Rattle.lot_queues.proofs.queues.list_threads.Given as goal
 
 -- the list is what was yielded and what is left, and `out` has the threads of what was yielded

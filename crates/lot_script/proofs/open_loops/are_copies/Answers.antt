@@ -1,5 +1,4 @@
-use Rattle.std.proofs.Common.{arith, sym, ◌∙◌, refl}
-use Rattle.lot_script.proofs.Copies.{copies-as_many, copies-there, copies-next, copies-all}
+use Rattle.lot_script.proofs.Lemmas.{arith, copies-all, copies-as_many, copies-next, copies-there, refl, sym, ◌∙◌}
 use Rattle.lot_script.proofs.open_loops.are_copies.Goals as goal
 
 pub returns-then-loops-firsts : goal.returns-then-loops-firsts

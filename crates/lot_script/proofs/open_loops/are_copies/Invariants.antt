@@ -1,6 +1,4 @@
-use Rattle.std.proofs.Common.{take}
-use Rattle.std.specs.Prelude.{reverse}
-use Rattle.lot_script.specs.Places.{AreCopies}
+use Rattle.lot_script.proofs.Common.{AreCopies, reverse, take}
 use Rattle.lot_script.proofs.open_loops.are_copies.Given as goal
 
 abbrev pub invariant-loop-i : goal.invariant-loop-i

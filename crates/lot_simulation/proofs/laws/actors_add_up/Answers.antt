@@ -1,6 +1,4 @@
-use Rattle.std.proofs.Common.{◌+◌, ◌∙◌}
-use Rattle.lot_simulation.specs.Report.{turns_made}
-use Rattle.lot_simulation.proofs.ActorCounts.{counts-add_up, lengths-add_up, turns_made-actors, turns_made-length}
+use Rattle.lot_simulation.proofs.Lemmas.{counts-add_up, lengths-add_up, turns_made, turns_made-actors, turns_made-length, ◌+◌, ◌∙◌}
 use Rattle.lot_simulation.proofs.laws.actors_add_up.Goals as goal
 
 pub returns-clause-turns : goal.returns-clause-turns

@@ -1,11 +1,4 @@
-use Rattle.std.proofs.Common.{◌≡◌, ℕ, List, subst, sum_by, sym}
-use Rattle.std.specs.List.{range_with_len}
-use Rattle.lot_machine.specs.declared.reply.Reply.{Reply}
-use Rattle.lot_simulation.specs.Report.{ActorTurn, idles_in, quanta_in, ticks_in, total_of, turns_of}
-use Rattle.lot_simulation.specs.Timed.{timed_schedule}
-use Rattle.lot_simulation.specs.World.{Program}
-use Rattle.lot_simulation.proofs.TimedRuns.{timed-made}
-use Rattle.lot_simulation.proofs.ProcessorCounts.{quanta-of_processors, idles-of_processors, ticks-of_processors}
+use Rattle.lot_simulation.proofs.Lemmas.{ActorTurn, List, Program, Reply, idles-of_processors, idles_in, quanta-of_processors, quanta_in, range_with_len, subst, sum_by, sym, ticks-of_processors, ticks_in, timed-made, timed_schedule, total_of, turns_of, ℕ, ◌≡◌}
 use Rattle.lot_simulation.proofs.laws.timed_processors_add_up.Goals as goal
 
 abbrev AddsUp : Program → (Reply → ℕ) → List ActorTurn → Type 0

@@ -1,11 +1,4 @@
-use Rattle.std.proofs.Common.{◌<◌, ◌^◌, ◌∙◌, ap, arith, length, sum_by, sym}
-use Rattle.std.proofs.lemmas.List.{length-map}
-use Rattle.lot_machine.specs.declared.record.Record.{Record}
-use Rattle.lot_simulation.specs.Report.{quanta_in, ticks_in, total_of}
-use Rattle.lot_simulation.specs.Timed.{TimedTurn, opening_moment, timed_room, timed_schedule, timed_turns}
-use Rattle.lot_simulation.specs.World.{Program, World}
-use Rattle.lot_simulation.proofs.TimedRuns.{room-small, timed-made, timed-world, turns-few}
-use Rattle.lot_simulation.proofs.RecordCounts.{quanta-add_up, ticks-add_up, quanta-within, ticks-within}
+use Rattle.lot_simulation.proofs.Lemmas.{Program, Record, TimedTurn, World, ap, arith, length, length-map, opening_moment, quanta-add_up, quanta-within, quanta_in, room-small, sum_by, sym, ticks-add_up, ticks-within, ticks_in, timed-made, timed-world, timed_room, timed_schedule, timed_turns, total_of, turns-few, ◌<◌, ◌^◌, ◌∙◌}
 use Rattle.lot_simulation.proofs.laws.timed_threads_add_up.Goals as goal
 
 short : (program : Program) → length (timed_schedule program) < 2 ^ 32

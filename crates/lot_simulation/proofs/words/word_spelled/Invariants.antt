@@ -1,6 +1,5 @@
 -- what the rest of the table says of the token is what the whole says
-use Rattle.std.proofs.Common.{◌≡◌, map, length}
-use Rattle.lot_simulation.specs.Words.{word_in}
+use Rattle.lot_simulation.proofs.Common.{length, map, word_in, ◌≡◌}
 use Rattle.lot_simulation.proofs.words.word_spelled.Given as goal
 
 abbrev pub invariant-loop-table : goal.invariant-loop-table

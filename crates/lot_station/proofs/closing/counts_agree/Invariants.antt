@@ -1,6 +1,4 @@
-use Rattle.std.proofs.Common.{◌≡◌, ℕ, ◌<◌, slice_get, Some}
-use Rattle.lot_station.specs.Holders.{Holder}
-use Rattle.lot_station.specs.Settings.{times_in}
+use Rattle.lot_station.proofs.Common.{Holder, Some, slice_get, times_in, ℕ, ◌<◌, ◌≡◌}
 use Rattle.lot_station.proofs.closing.counts_agree.Given as goal
 
 abbrev pub invariant-loop-seat : goal.invariant-loop-seat

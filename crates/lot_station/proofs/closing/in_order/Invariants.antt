@@ -1,5 +1,4 @@
-use Rattle.std.proofs.Common.{◌≡◌, ℕ, ◌<◌, slice_get, Some}
-use Rattle.lot_station.specs.Holders.{Holder}
+use Rattle.lot_station.proofs.Common.{Holder, Some, slice_get, ℕ, ◌<◌, ◌≡◌}
 use Rattle.lot_station.proofs.closing.in_order.Given as goal
 
 abbrev pub invariant-loop-k : goal.invariant-loop-k

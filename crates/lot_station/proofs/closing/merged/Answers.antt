@@ -1,6 +1,5 @@
-use Rattle.std.proofs.Common.{rules, [], ◌∷◌, ◌++◌, length, arith, ap, sym, ◌∙◌}
-use Rattle.lot_station.specs.Holders.{Holder}
-use Rattle.lot_station.proofs.Merging.{head_first, moves_on, has_one, has_more}
+use Rattle.lot_station.proofs.Lemmas.{Holder, ap, arith, has_more, has_one, length, rules, sym, [], ◌++◌, ◌∙◌, ◌∷◌}
+use Rattle.lot_station.proofs.Merging.{head_first, moves_on}
 use Rattle.lot_station.proofs.closing.merged.Goals as goal
 
 pub loop-seat-init : goal.loop-seat-init

@@ -1,6 +1,4 @@
-use Rattle.std.proofs.Common.{◌≡◌, List, ◌++◌, length}
-use Rattle.lot_station.specs.Holders.{Holder}
-use Rattle.lot_station.proofs.Merging.{Has}
+use Rattle.lot_station.proofs.Lemmas.{Has, Holder, List, length, ◌++◌, ◌≡◌}
 use Rattle.lot_station.proofs.closing.merged.Given as goal
 
 abbrev pub invariant-loop-seat : goal.invariant-loop-seat

@@ -1,6 +1,4 @@
-use Rattle.std.proofs.Common.{ap, ◌∙◌}
-use Rattle.lot_engine.specs.declared.counts.Counts.{Counts}
-use Rattle.lot_station.proofs.Counting.{length-turns_of}
+use Rattle.lot_station.proofs.Lemmas.{Counts, ap, length-turns_of, ◌∙◌}
 use Rattle.lot_station.proofs.closing.times.Goals as goal
 
 pub returns : goal.returns

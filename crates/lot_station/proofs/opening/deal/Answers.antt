@@ -1,9 +1,5 @@
-use Rattle.std.proofs.Common.{rules, ◌+◌, ap, ◌∙◌}
-use Rattle.lot_simulation.specs.Report.{quanta_in, ticks_in, total_of, turns_of}
-use Rattle.lot_engine.specs.declared.counts.Counts.{Counts}
-use Rattle.lot_station.specs.Settings.{times_in, turns_in}
-use Rattle.lot_station.proofs.Counting.{length-turns_of}
-use Rattle.lot_station.proofs.Dealing.{left-enough, left-next, dealt_one, deals_one, all-turns, all-counted}
+use Rattle.lot_station.proofs.Lemmas.{Counts, all-counted, all-turns, ap, dealt_one, left-enough, left-next, length-turns_of, quanta_in, rules, ticks_in, times_in, total_of, turns_in, turns_of, ◌+◌, ◌∙◌}
+use Rattle.lot_station.proofs.Dealing.{deals_one}
 use Rattle.lot_station.proofs.opening.deal.Goals as goal
 
 pub loop-k-init : goal.loop-k-init

@@ -1,8 +1,4 @@
-use Rattle.std.proofs.Common.{◌≡◌, ℕ, ◌≤◌, slice_get, Some, vec_len, vec_capacity}
-use Rattle.lot_simulation.specs.Report.{quanta_in, ticks_in, total_of, turns_of}
-use Rattle.lot_station.specs.Holders.{Holder, dealt}
-use Rattle.lot_station.specs.Settings.{times_in, turns_in}
-use Rattle.lot_station.proofs.Dealing.{IsLeft}
+use Rattle.lot_station.proofs.Lemmas.{Holder, IsLeft, Some, dealt, quanta_in, slice_get, ticks_in, times_in, total_of, turns_in, turns_of, vec_capacity, vec_len, ℕ, ◌≡◌, ◌≤◌}
 use Rattle.lot_station.proofs.opening.deal.Given as goal
 
 abbrev pub invariant-loop-k : goal.invariant-loop-k

@@ -1,5 +1,4 @@
-use Rattle.lot_system.proofs.Common.{Err, Event, LineStyle, Put, Reply, ap, begins-front, codes, decimal, front, listing_text, plain_text, refl, reply_text, rules, subst, sym, world_of, ℕ, ◌++◌, ◌∙◌, ◌≡◌}
-use Rattle.lot_system.proofs.WritingFacts.{put-written}
+use Rattle.lot_system.proofs.Lemmas.{Err, Event, LineStyle, Put, Reply, ap, begins-front, codes, decimal, front, listing_text, plain_text, put-written, refl, reply_text, rules, subst, sym, world_of, ℕ, ◌++◌, ◌∙◌, ◌≡◌}
 use Rattle.lot_system.proofs.answers.put_answer.Goals as goal
 
 -- the text of a line with this heading
@@ -23,8 +22,9 @@ returns-in_ok-write_out-in-List-clause-text g c =
     let style = c.args.style in
     let text : front style ++ (decimal c.args.actor ++ (codes " " ++ listing_text style state c.in-List.kind)) ≡ front style ++ (decimal c.args.actor ++ (codes " " ++ reply_text style state c.args.event.now c.args.reply.now)) =
     ap (λ (r : Reply). front style ++ (decimal c.args.actor ++ (codes " " ++ reply_text style state c.args.event.now r))) (sym c.in-List.is) in
+    let listed = rw c.settle.ensures.state at c.write_listing.ensures in
     subst (Put old new c.args.page.now c.write_out.new.self c.write_listing.new.writer.failed c.write_listing.result) text
-    (put-written old (g.W.Write.contents c.write_out.new.writer.inner) new c.args.page.now c.write_out.new.self (front style ++ (decimal c.args.actor ++ (codes " " ++ listing_text style state c.in-List.kind))) c.write_listing.new.writer.failed c.write_listing.result told.none told.text.1 c.write_listing.ensures.text)
+    (put-written old (g.W.Write.contents c.write_out.new.writer.inner) new c.args.page.now c.write_out.new.self (front style ++ (decimal c.args.actor ++ (codes " " ++ listing_text style state c.in-List.kind))) c.write_listing.new.writer.failed c.write_listing.result told.none told.text.1 listed)
 
 pub returns-in_default-clause-text : goal.returns-in_default-clause-text
 returns-in_default-clause-text g c =

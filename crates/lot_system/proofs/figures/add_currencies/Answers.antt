@@ -1,5 +1,4 @@
-use Rattle.lot_system.proofs.Common.{Figures, currency_after, currency_name, currency_shares_in, timed_turns, world_of, ℕ, ◌∙◌}
-use Rattle.lot_system.proofs.SeedFacts.{rows-left, rows-more}
+use Rattle.lot_system.proofs.Lemmas.{Figures, currency_after, currency_name, currency_shares_in, rows-left, rows-more, timed_turns, world_of, ℕ, ◌∙◌}
 use Rattle.lot_system.proofs.figures.add_currencies.Goals as goal
 
 pub loop-place-preserved : goal.loop-place-preserved

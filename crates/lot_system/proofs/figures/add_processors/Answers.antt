@@ -1,5 +1,4 @@
-use Rattle.lot_system.proofs.Common.{IsChangedAt, ProcessorFigures, TimedProcessorTotal, actor_turns, moment_in, processor_added, processor_in, subst, timed_turns, ℕ, ◌+◌, ◌∙◌}
-use Rattle.lot_system.proofs.SeedFacts.{rows-left, rows-more}
+use Rattle.lot_system.proofs.Lemmas.{IsChangedAt, ProcessorFigures, TimedProcessorTotal, actor_turns, moment_in, processor_added, processor_in, rows-left, rows-more, subst, timed_turns, ℕ, ◌+◌, ◌∙◌}
 use Rattle.lot_system.proofs.figures.add_processors.Goals as goal
 
 pub loop-place-preserved : goal.loop-place-preserved

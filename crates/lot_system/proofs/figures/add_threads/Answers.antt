@@ -1,5 +1,4 @@
-use Rattle.lot_system.proofs.Common.{Counts, Figures, IsChangedAt, Seen, ap, thread_after, thread_row, ticks_in, told_at_end, total_of, turns_made, world_of, ℕ, ◌+◌, ◌∙◌, ◌≡◌}
-use Rattle.lot_system.proofs.SeedFacts.{rows-left, rows-more}
+use Rattle.lot_system.proofs.Lemmas.{Counts, Figures, IsChangedAt, Seen, ap, rows-left, rows-more, thread_after, thread_row, ticks_in, told_at_end, total_of, turns_made, world_of, ℕ, ◌+◌, ◌∙◌, ◌≡◌}
 use Rattle.lot_system.proofs.figures.add_threads.Goals as goal
 
 pub loop-place-preserved : goal.loop-place-preserved

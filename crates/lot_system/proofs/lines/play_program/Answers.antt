@@ -1,6 +1,5 @@
 -- All is written before the outcome is known.
-use Rattle.lot_system.proofs.Common.{Err, played_output, refl, ◌≡◌}
-use Rattle.lot_system.proofs.PlayedFacts.{ends-err, err-is}
+use Rattle.lot_system.proofs.Lemmas.{Err, ends-err, err-is, played_output, refl, ◌≡◌}
 use Rattle.lot_system.proofs.lines.play_program.Goals as goal
 
 pub returns-in_err-write_play-clause-played : goal.returns-in_err-write_play-clause-played

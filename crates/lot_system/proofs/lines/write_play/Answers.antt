@@ -1,7 +1,5 @@
 -- The report is written after the lines.
-use Rattle.lot_system.proofs.Common.{Begins, Err, OnOk, Written, begins-front, ends_refused, last_report, made_texts, program_turns, subst, sym, writes-after, ◌||◌, ◌≡◌}
-use Rattle.lot_system.proofs.PlayedFacts.{err-is}
-use Rattle.lot_system.proofs.TextFacts.{played-texts}
+use Rattle.lot_system.proofs.Lemmas.{Begins, Err, OnOk, Written, begins-front, ends_refused, err-is, last_report, made_texts, played-texts, program_turns, subst, sym, writes-after, ◌||◌, ◌≡◌}
 use Rattle.lot_system.proofs.lines.write_play.Goals as goal
 
 pub returns-in_err-write_turns-clause-text : goal.returns-in_err-write_turns-clause-text

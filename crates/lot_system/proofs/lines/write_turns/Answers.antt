@@ -1,5 +1,4 @@
-use Rattle.lot_system.proofs.Common.{made_texts, program_turns, rules}
-use Rattle.lot_system.proofs.LineFacts.{pages-out}
+use Rattle.lot_system.proofs.Lemmas.{made_texts, pages-out, program_turns, rules}
 use Rattle.lot_system.proofs.lines.write_turns.Goals as goal
 
 pub returns-clause-text : goal.returns-clause-text

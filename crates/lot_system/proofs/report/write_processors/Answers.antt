@@ -1,5 +1,4 @@
-use Rattle.lot_system.proofs.Common.{Err, arith, processor_total, rules, turns_made, world_of, ◌+◌, ◌≡◌}
-use Rattle.lot_system.proofs.WritingFacts.{range-more, range-stops}
+use Rattle.lot_system.proofs.Lemmas.{Err, arith, processor_total, range-more, range-stops, rules, turns_made, world_of, ◌+◌, ◌≡◌}
 use Rattle.lot_system.proofs.report.write_processors.Goals as goal
 
 pub returns-in_err-write_processor : goal.returns-in_err-write_processor

@@ -22,7 +22,7 @@ pub returns-in_err-write_threads-clause-text : goal.returns-in_err-write_threads
 returns-in_err-write_threads-clause-text g c =
     let s = c.args.system.now in
     let is : c.from_residual-in_err-write_threads.result ≡ Err c.in_err-write_threads.field-0.0 = search rules in
-    let told = c.in_err-write_threads.ensures.text in
+    let told = (rw c.settle.ensures.state at c.in_err-write_threads.ensures) in
     let old = g.W.Write.contents c.args.writer.now.inner in
     let one = g.W.Write.contents c.write_report_line.new.writer.inner in
     let new = g.W.Write.contents c.write_threads.new.writer.inner in
@@ -32,7 +32,7 @@ pub returns-in_err-write_processors-clause-text : goal.returns-in_err-write_proc
 returns-in_err-write_processors-clause-text g c =
     let s = c.args.system.now in
     let is : c.from_residual-in_err-write_processors.result ≡ Err c.in_err-write_processors.field-0.0 = search rules in
-    let told = rw c.in_ok-write_threads.ensures.same at c.in_err-write_processors.ensures in
+    let told = rw c.settle.follows.holds-at-none at c.in_err-write_processors.ensures in
     let old = g.W.Write.contents c.args.writer.now.inner in
     let one = g.W.Write.contents c.write_report_line.new.writer.inner in
     let two = g.W.Write.contents c.write_threads.new.writer.inner in
@@ -41,13 +41,13 @@ returns-in_err-write_processors-clause-text g c =
       told.0,
       told.1,
       begins-after old one new (codes "report\n") (threads s ++ (processors s ++ totals s)) c.in_ok-write_report_line.ensures.1
-          (begins-after one two new (threads s) (processors s ++ totals s) c.in_ok-write_threads.ensures.text.1 (begins-front two new (processors s) (totals s) told.2)),
+          (begins-after one two new (threads s) (processors s ++ totals s) (rw c.settle.ensures.state at c.in_ok-write_threads.ensures.1) (begins-front two new (processors s) (totals s) told.2)),
     )
 
 pub returns-clause-text : goal.returns-clause-text
 returns-clause-text g c =
     let s = c.args.system.now in
-    let same = c.in_ok-write_threads.ensures.same in
+    let same = c.settle.follows.holds-at-none in
     let third = rw same at c.in_ok-write_processors.ensures in
     let last = rw same at c.write_total.ensures in
     let old = g.W.Write.contents c.args.writer.now.inner in
@@ -58,4 +58,4 @@ returns-clause-text g c =
     let failed = c.write_total.new.writer.failed in
     let result = c.write_total.result in
     writes-after old one new failed result (codes "report\n") (threads s ++ (processors s ++ totals s)) c.in_ok-write_report_line.ensures.1
-    (writes-after one two new failed result (threads s) (processors s ++ totals s) c.in_ok-write_threads.ensures.text.1 (writes-after two three new failed result (processors s) (totals s) third.1 last))
+    (writes-after one two new failed result (threads s) (processors s ++ totals s) (rw c.settle.ensures.state at c.in_ok-write_threads.ensures.1) (writes-after two three new failed result (processors s) (totals s) third.1 last))

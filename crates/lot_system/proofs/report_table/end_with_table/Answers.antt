@@ -1,8 +1,5 @@
 -- The end of the play is that of the system it had.
-use Rattle.lot_system.proofs.Common.{HasMade, IsInOrder, Seen, ap, program_turns, stopped_in, subst, sym, ◌||◌, ◌∙◌}
-use Rattle.lot_system.proofs.PlayedFacts.{on-any}
-use Rattle.lot_system.proofs.RefusedFacts.{stopped-at-end}
-use Rattle.lot_system.proofs.SeedFacts.{over-at-end}
+use Rattle.lot_system.proofs.Lemmas.{HasMade, IsInOrder, Seen, ap, on-any, over-at-end, program_turns, stopped-at-end, stopped_in, subst, sym, ◌||◌, ◌∙◌}
 use Rattle.lot_system.proofs.report_table.end_with_table.Goals as goal
 
 pub returns-clause-stopped : goal.returns-clause-stopped

@@ -1,5 +1,4 @@
-use Rattle.lot_system.proofs.Common.{Written, subst, time-end}
-use Rattle.lot_system.proofs.TableFacts.{scheduled-is, timed-is}
+use Rattle.lot_system.proofs.Lemmas.{Written, scheduled-is, subst, time-end, timed-is}
 use Rattle.lot_system.proofs.report_table.write_table.Goals as goal
 
 pub write_in_form-requires-clause-end : goal.write_in_form-requires-clause-end

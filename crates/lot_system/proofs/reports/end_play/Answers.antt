@@ -1,8 +1,5 @@
 -- The end of the play is that of the system it had.
-use Rattle.lot_system.proofs.Common.{IsInOrder, Seen, ap, stopped_in, subst, sym, ◌||◌, ◌∙◌}
-use Rattle.lot_system.proofs.PlayedFacts.{on-any}
-use Rattle.lot_system.proofs.RefusedFacts.{stopped-at-end}
-use Rattle.lot_system.proofs.SeedFacts.{over-at-end}
+use Rattle.lot_system.proofs.Lemmas.{IsInOrder, Seen, ap, on-any, over-at-end, stopped-at-end, stopped_in, subst, sym, ◌||◌, ◌∙◌}
 use Rattle.lot_system.proofs.reports.end_play.Goals as goal
 
 pub returns-clause-stopped : goal.returns-clause-stopped

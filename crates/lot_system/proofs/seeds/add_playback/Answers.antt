@@ -1,6 +1,4 @@
-use Rattle.lot_system.proofs.Common.{HasMade, IsInOrder, IsOver, Seen, ap, program_turns, stopped_in, subst, sym, ◌||◌, ◌∙◌}
-use Rattle.lot_system.proofs.RefusedFacts.{stopped-at-end}
-use Rattle.lot_system.proofs.SeedFacts.{changed-as, currency-is, over-at-end, processor-is, thread-is, whole-is}
+use Rattle.lot_system.proofs.Lemmas.{HasMade, IsInOrder, IsOver, Seen, ap, changed-as, currency-is, over-at-end, processor-is, program_turns, stopped-at-end, stopped_in, subst, sym, thread-is, whole-is, ◌||◌, ◌∙◌}
 use Rattle.lot_system.proofs.seeds.add_playback.Goals as goal
 
 pub add_play-requires-clause-over : goal.add_play-requires-clause-over

@@ -1,6 +1,4 @@
-use Rattle.lot_system.proofs.Common.{Some, Warnings, ap, ends_refused, with_seed, [], ◌||◌, ◌∙◌}
-use Rattle.lot_system.proofs.RefusedFacts.{all-seeds}
-use Rattle.lot_system.proofs.SeedFacts.{all-more}
+use Rattle.lot_system.proofs.Lemmas.{Some, Warnings, all-more, all-seeds, ap, ends_refused, with_seed, [], ◌||◌, ◌∙◌}
 use Rattle.lot_system.proofs.seeds.play_each.Goals as goal
 
 pub play_others-requires-clause-first : goal.play_others-requires-clause-first

@@ -1,6 +1,4 @@
-use Rattle.lot_system.proofs.Common.{AreAllFigures, List, Some, any_ends_refused, ap, arith, ends_refused, range_with_len, seeds_between, subst, with_seed, ℕ, [], ◌++◌, ◌+◌, ◌-◌, ◌||◌, ◌∙◌, ◌∷◌, ◌≡◌}
-use Rattle.lot_system.proofs.RefusedFacts.{any-seed, first-seed}
-use Rattle.lot_system.proofs.SeedFacts.{all-more, between-first, between-more}
+use Rattle.lot_system.proofs.Lemmas.{AreAllFigures, List, Some, all-more, any-seed, any_ends_refused, ap, arith, between-first, between-more, ends_refused, first-seed, range_with_len, seeds_between, subst, with_seed, ℕ, [], ◌++◌, ◌+◌, ◌-◌, ◌||◌, ◌∙◌, ◌∷◌, ◌≡◌}
 use Rattle.lot_system.proofs.seeds.play_others.Goals as goal
 
 pub loop-number-init : goal.loop-number-init

@@ -1,5 +1,4 @@
-use Rattle.lot_system.proofs.Common.{Err, FiguresTable, List, Option, Program, Sizes, ap, arith, length, no_processor_figures, processor_over, processor_text, rules, seeds_between, ℕ, ◌+◌, ◌<◌, ◌≡◌}
-use Rattle.lot_system.proofs.WritingFacts.{range-more, range-stops}
+use Rattle.lot_system.proofs.Lemmas.{Err, FiguresTable, List, Option, Program, Sizes, ap, arith, length, no_processor_figures, processor_over, processor_text, range-more, range-stops, rules, seeds_between, ℕ, ◌+◌, ◌<◌, ◌≡◌}
 use Rattle.lot_system.proofs.seeds.write_processors.Goals as goal
 
 -- the line of the processor with a number

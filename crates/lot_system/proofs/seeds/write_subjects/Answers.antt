@@ -1,5 +1,4 @@
-use Rattle.lot_system.proofs.Common.{Err, FiguresTable, List, Option, Program, Subject, arith, count_of, figures_over, figures_text, rules, seeds_between, ℕ, ◌+◌, ◌<◌, ◌≡◌}
-use Rattle.lot_system.proofs.WritingFacts.{range-more, range-stops}
+use Rattle.lot_system.proofs.Lemmas.{Err, FiguresTable, List, Option, Program, Subject, arith, count_of, figures_over, figures_text, range-more, range-stops, rules, seeds_between, ℕ, ◌+◌, ◌<◌, ◌≡◌}
 use Rattle.lot_system.proofs.seeds.write_subjects.Goals as goal
 
 -- the lines or the row of the thread or the currency with a number

@@ -1,5 +1,4 @@
-use Rattle.std.proofs.Common.{arith}
-use Rattle.lot_system.proofs.SeedFacts.{due-percent}
+use Rattle.lot_system.proofs.Lemmas.{arith, due-percent}
 use Rattle.lot_system.proofs.spreads.due_percent.Goals as goal
 
 pub returns : goal.returns

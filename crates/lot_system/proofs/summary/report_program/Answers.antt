@@ -1,6 +1,5 @@
 -- The report is all that is written.
-use Rattle.lot_system.proofs.Common.{Err, ap, ends_refused, refl, report_text, ◌||◌, ◌∙◌, ◌≡◌}
-use Rattle.lot_system.proofs.PlayedFacts.{ends-err, err-is}
+use Rattle.lot_system.proofs.Lemmas.{Err, ap, ends-err, ends_refused, err-is, refl, report_text, ◌||◌, ◌∙◌, ◌≡◌}
 use Rattle.lot_system.proofs.summary.report_program.Goals as goal
 
 pub returns-in_err-end_in_form-clause-reported : goal.returns-in_err-end_in_form-clause-reported

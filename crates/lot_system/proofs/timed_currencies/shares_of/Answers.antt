@@ -1,5 +1,4 @@
-use Rattle.lot_system.proofs.Common.{arith, length, opening, refl, timed_turns, world_of}
-use Rattle.lot_system.proofs.TimedReportFacts.{currencies-are, currency-shares-are, ticks-are, turns-few}
+use Rattle.lot_system.proofs.Lemmas.{arith, currencies-are, currency-shares-are, length, opening, refl, ticks-are, timed_turns, turns-few, world_of}
 use Rattle.lot_system.proofs.timed_currencies.shares_of.Goals as goal
 
 pub due_of-requires-clause-few : goal.due_of-requires-clause-few

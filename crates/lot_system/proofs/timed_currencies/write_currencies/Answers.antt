@@ -1,5 +1,4 @@
-use Rattle.lot_system.proofs.Common.{Appends, Err, List, ReportForm, Seen, arith, currency_name, drop, flat_map, length, length-drop, option_map_or, range_with_len, rules, subst, timed_currency_text, timed_turns, world_of, ℕ, [], ◌+◌, ◌≡◌}
-use Rattle.lot_system.proofs.WritingFacts.{range-more, range-stops}
+use Rattle.lot_system.proofs.Lemmas.{Appends, Err, List, ReportForm, Seen, arith, currency_name, drop, flat_map, length, length-drop, option_map_or, range-more, range-stops, range_with_len, rules, subst, timed_currency_text, timed_turns, world_of, ℕ, [], ◌+◌, ◌≡◌}
 use Rattle.lot_system.proofs.timed_currencies.write_currencies.Goals as goal
 
 -- the line or row of the currency with a number, if there is one

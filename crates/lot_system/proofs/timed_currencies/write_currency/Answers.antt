@@ -1,5 +1,4 @@
-use Rattle.lot_system.proofs.Common.{Written, subst}
-use Rattle.lot_system.proofs.TimedReportFacts.{currency-line}
+use Rattle.lot_system.proofs.Lemmas.{Written, currency-line, subst}
 use Rattle.lot_system.proofs.timed_currencies.write_currency.Goals as goal
 
 pub returns-in-Lines : goal.returns-in-Lines

@@ -1,5 +1,4 @@
-use Rattle.lot_system.proofs.Common.{ap, length, moment_in, unwrap_or, ◌∙◌}
-use Rattle.lot_system.proofs.TimedReportFacts.{early-is}
+use Rattle.lot_system.proofs.Lemmas.{ap, early-is, length, moment_in, unwrap_or, ◌∙◌}
 use Rattle.lot_system.proofs.timed_report.early_end.Goals as goal
 
 pub returns : goal.returns

@@ -1,5 +1,4 @@
-use Rattle.lot_system.proofs.Common.{arith, length, life_change, timed_turns, world_of, ◌∙◌}
-use Rattle.lot_system.proofs.TimedReportFacts.{lives-are, lives-more}
+use Rattle.lot_system.proofs.Lemmas.{arith, length, life_change, lives-are, lives-more, timed_turns, world_of, ◌∙◌}
 use Rattle.lot_system.proofs.timed_report.past_lives.Goals as goal
 
 pub loop-place-preserved : goal.loop-place-preserved

@@ -1,5 +1,5 @@
-use Rattle.lot_system.proofs.Common.{actor_turns, ap, counted, length, moment_in, timed_turns, turns_of, ◌∙◌}
-use Rattle.lot_system.proofs.TimedReportFacts.{history-short, processor-is, turns-are}
+use Rattle.lot_system.proofs.Lemmas.{actor_turns, ap, counted, history-short, length, moment_in, timed_turns, turns-are, turns_of, ◌∙◌}
+use Rattle.lot_system.proofs.TimedReportFacts.{processor-is}
 use Rattle.lot_system.proofs.timed_report.processor_total.Goals as goal
 
 pub idle_until-requires-clause-idled : goal.idle_until-requires-clause-idled

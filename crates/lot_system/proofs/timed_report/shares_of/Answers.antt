@@ -1,5 +1,4 @@
-use Rattle.lot_system.proofs.Common.{Threads, arith, length, life_change, mutex_change, opening, reply_change, timed_turns, world_of}
-use Rattle.lot_system.proofs.TimedReportFacts.{dues-are, lives-are, turns-few, mutexes-are, ready-are, replies-are, shares-are, ticks-are, traps-are}
+use Rattle.lot_system.proofs.Lemmas.{Threads, arith, dues-are, length, life_change, lives-are, mutex_change, mutexes-are, opening, ready-are, replies-are, reply_change, shares-are, ticks-are, timed_turns, traps-are, turns-few, world_of}
 use Rattle.lot_system.proofs.timed_report.shares_of.Goals as goal
 
 pub of-requires-clause-few : goal.of-requires-clause-few

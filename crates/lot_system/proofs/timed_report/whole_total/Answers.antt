@@ -1,5 +1,5 @@
-use Rattle.lot_system.proofs.Common.{ap, counted, moment_in, timed_turns, ◌∙◌}
-use Rattle.lot_system.proofs.TimedReportFacts.{refused-are, turns-are, whole-is}
+use Rattle.lot_system.proofs.Lemmas.{ap, counted, moment_in, refused-are, timed_turns, turns-are, ◌∙◌}
+use Rattle.lot_system.proofs.TimedReportFacts.{whole-is}
 use Rattle.lot_system.proofs.timed_report.whole_total.Goals as goal
 
 pub returns-clause-total : goal.returns-clause-total

@@ -1,6 +1,5 @@
 -- Each part is written after those before it.
-use Rattle.lot_system.proofs.Common.{Begins, Err, List, Seen, Timekeeper, Written, actor_turns, begins-after, begins-front, codes, ended_at, flat_map, moment_in, range_with_len, rules, subst, ticks_in, timed_currency_lines, timed_processor_total, timed_thread_lines, timed_turns, timed_whole_total, total_of, world_of, writes-after, ℕ, ◌++◌, ◌≡◌}
-use Rattle.lot_system.proofs.TimedReportFacts.{lines-are}
+use Rattle.lot_system.proofs.Lemmas.{Begins, Err, List, Seen, Timekeeper, Written, actor_turns, begins-after, begins-front, codes, ended_at, flat_map, lines-are, moment_in, range_with_len, rules, subst, ticks_in, timed_currency_lines, timed_processor_total, timed_thread_lines, timed_turns, timed_whole_total, total_of, world_of, writes-after, ℕ, ◌++◌, ◌≡◌}
 use Rattle.lot_system.proofs.timed_report.write_lines.Goals as goal
 
 -- the lines of the threads, of the currencies, of the processors, and the last

@@ -1,5 +1,4 @@
-use Rattle.lot_system.proofs.Common.{Err, List, Seen, Timekeeper, actor_turns, arith, moment_in, rules, timed_processor_total, timed_turns, world_of, ℕ, ◌+◌, ◌≡◌}
-use Rattle.lot_system.proofs.WritingFacts.{range-more, range-stops}
+use Rattle.lot_system.proofs.Lemmas.{Err, List, Seen, Timekeeper, actor_turns, arith, moment_in, range-more, range-stops, rules, timed_processor_total, timed_turns, world_of, ℕ, ◌+◌, ◌≡◌}
 use Rattle.lot_system.proofs.timed_report.write_processors.Goals as goal
 
 -- the line of the processor with a number

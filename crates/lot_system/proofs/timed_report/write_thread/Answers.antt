@@ -1,5 +1,4 @@
-use Rattle.lot_system.proofs.Common.{Written, subst}
-use Rattle.lot_system.proofs.TimedReportFacts.{is-table, thread-line, thread-record}
+use Rattle.lot_system.proofs.Lemmas.{Written, is-table, subst, thread-line, thread-record}
 use Rattle.lot_system.proofs.timed_report.write_thread.Goals as goal
 
 pub returns-in-Lines-clause-text : goal.returns-in-Lines-clause-text

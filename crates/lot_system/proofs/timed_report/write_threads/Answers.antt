@@ -1,5 +1,4 @@
-use Rattle.lot_system.proofs.Common.{Appends, Err, List, ReportForm, Seen, ap, arith, flat_map, length, option_map_or, range_with_len, rules, subst, thread_row, timed_thread_text, timed_turns, world_of, ℕ, [], ◌+◌, ◌∙◌, ◌≡◌}
-use Rattle.lot_system.proofs.WritingFacts.{range-more, range-stops}
+use Rattle.lot_system.proofs.Lemmas.{Appends, Err, List, ReportForm, Seen, ap, arith, flat_map, length, option_map_or, range-more, range-stops, range_with_len, rules, subst, thread_row, timed_thread_text, timed_turns, world_of, ℕ, [], ◌+◌, ◌∙◌, ◌≡◌}
 use Rattle.lot_system.proofs.timed_report.write_threads.Goals as goal
 
 -- the line or row of the thread with a number, if there is one

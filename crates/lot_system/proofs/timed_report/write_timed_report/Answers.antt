@@ -1,6 +1,6 @@
 -- The lines of each report, and then that of an early end.
-use Rattle.lot_system.proofs.Common.{Begins, Err, List, Program, Seen, Timekeeper, Written, begins-front, early_end, early_text, ended_at, length, moment_in, rules, subst, timed_report_of, timed_turns, writes-after, ℕ, ◌≡◌}
-use Rattle.lot_system.proofs.TimedReportFacts.{early-line, report-is}
+use Rattle.lot_system.proofs.Lemmas.{Begins, Err, List, Program, Seen, Timekeeper, Written, begins-front, early-line, early_end, early_text, ended_at, length, moment_in, rules, subst, timed_report_of, timed_turns, writes-after, ℕ, ◌≡◌}
+use Rattle.lot_system.proofs.TimedReportFacts.{report-is}
 use Rattle.lot_system.proofs.timed_report.write_timed_report.Goals as goal
 
 -- the lines of each report

@@ -1,5 +1,4 @@
-use Rattle.lot_text.proofs.FaultLemmas.{Fails-then, Gives-fault}
-use Rattle.lot_text.proofs.RunLemmas.{pairs_added-read}
+use Rattle.lot_text.proofs.Lemmas.{Fails-then, Gives-fault, pairs_added-read}
 use Rattle.lot_text.proofs.body.add_pairs.Goals as goal
 
 pub returns-in_err-runs : goal.returns-in_err-runs

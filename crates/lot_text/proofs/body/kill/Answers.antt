@@ -1,6 +1,5 @@
-use Rattle.lot_text.proofs.Common.{body_after_header, refl}
+use Rattle.lot_text.proofs.Lemmas.{Gives-refusal, alone-refused, body_after_header, refl}
 use Rattle.lot_simulation.specs.declared.input.BodyWord.TheVariants as body
-use Rattle.lot_text.proofs.FaultLemmas.{Gives-refusal, alone-refused}
 use Rattle.lot_text.proofs.body.kill.Goals as goal
 
 pub returns-in_err-thread : goal.returns-in_err-thread

@@ -1,6 +1,5 @@
-use Rattle.lot_text.proofs.Common.{body_after_header, refl}
+use Rattle.lot_text.proofs.Lemmas.{Gives-refusal, body_after_header, none-refused, refl}
 use Rattle.lot_simulation.specs.declared.input.BodyWord.TheVariants as body
-use Rattle.lot_text.proofs.FaultLemmas.{Gives-refusal, none-refused}
 use Rattle.lot_text.proofs.body.list_currencies.Goals as goal
 
 pub returns-in_err-none : goal.returns-in_err-none

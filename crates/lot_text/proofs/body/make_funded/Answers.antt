@@ -1,6 +1,4 @@
-use Rattle.std.proofs.Common.{refl}
-use Rattle.lot_text.proofs.FaultLemmas.{Gives-refusal}
-use Rattle.lot_text.proofs.TicketLemmas.{make_funded-read}
+use Rattle.lot_text.proofs.Lemmas.{Gives-refusal, make_funded-read, refl}
 use Rattle.lot_text.proofs.body.make_funded.Goals as goal
 
 pub returns : goal.returns

@@ -1,6 +1,4 @@
-use Rattle.std.proofs.Common.{refl}
-use Rattle.lot_text.proofs.FaultLemmas.{Gives-refusal}
-use Rattle.lot_text.proofs.TicketLemmas.{make_ticket-read}
+use Rattle.lot_text.proofs.Lemmas.{Gives-refusal, make_ticket-read, refl}
 use Rattle.lot_text.proofs.body.make_ticket.Goals as goal
 
 pub returns : goal.returns

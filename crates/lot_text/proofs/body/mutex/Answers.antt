@@ -1,7 +1,4 @@
-use Rattle.lot_text.proofs.Common.{ap, arith, length, length-append, reading_of, refl, [], ◌∷◌}
-use Rattle.lot_text.proofs.FaultLemmas.{Gives-memory, Gives-refusal}
-use Rattle.lot_text.proofs.NameLemmas.{mutex-line}
-use Rattle.lot_text.proofs.ReadingLemmas.{with_mutexes}
+use Rattle.lot_text.proofs.Lemmas.{Gives-memory, Gives-refusal, ap, arith, length, length-append, mutex-line, reading_of, refl, with_mutexes, [], ◌∷◌}
 use Rattle.lot_text.proofs.body.mutex.Goals as goal
 
 pub returns-in_err-name : goal.returns-in_err-name

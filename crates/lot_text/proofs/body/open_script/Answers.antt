@@ -1,8 +1,5 @@
-use Rattle.lot_text.proofs.Common.{Reading, ap, arith, body_after_header, length, reading_of, refl, script_names, sym}
+use Rattle.lot_text.proofs.Lemmas.{Gives-refusal, Reading, alone-refused, ap, arith, body_after_header, length, reading_of, refl, script-full, script-named, script-refused, script_names, sym, with_open}
 use Rattle.lot_simulation.specs.declared.input.BodyWord.TheVariants as body
-use Rattle.lot_text.proofs.FaultLemmas.{Gives-refusal, alone-refused}
-use Rattle.lot_text.proofs.NameLemmas.{script-full, script-named, script-refused}
-use Rattle.lot_text.proofs.ReadingLemmas.{with_open}
 use Rattle.lot_text.proofs.body.open_script.Goals as goal
 
 pub returns-in_err-token : goal.returns-in_err-token

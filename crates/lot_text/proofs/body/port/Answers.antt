@@ -1,7 +1,4 @@
-use Rattle.lot_text.proofs.Common.{ap, arith, length, length-append, reading_of, refl, [], ◌∷◌}
-use Rattle.lot_text.proofs.FaultLemmas.{Gives-memory, Gives-refusal}
-use Rattle.lot_text.proofs.NameLemmas.{port-line}
-use Rattle.lot_text.proofs.ReadingLemmas.{with_ports}
+use Rattle.lot_text.proofs.Lemmas.{Gives-memory, Gives-refusal, ap, arith, length, length-append, port-line, reading_of, refl, with_ports, [], ◌∷◌}
 use Rattle.lot_text.proofs.body.port.Goals as goal
 
 pub returns-in_err-name : goal.returns-in_err-name

@@ -1,5 +1,4 @@
-use Rattle.lot_text.proofs.Common.{All-nil, All-push, All-same, IfOk-from_err, Ok, actor_below, ap, append-nil, arith, length, ℕ, [], ◌∙◌, ◌∷◌, ◌≤◌}
-use Rattle.lot_text.proofs.FaultLemmas.{Match-memory, Match-refusal, each-later, each-more, each-refused, more-read}
+use Rattle.lot_text.proofs.Lemmas.{All-nil, All-push, All-same, IfOk-from_err, Match-memory, Match-refusal, Ok, actor_below, ap, append-nil, arith, each-later, each-more, each-refused, length, more-read, ℕ, [], ◌∙◌, ◌∷◌, ◌≤◌}
 use Rattle.lot_text.proofs.body.read_actors.Goals as goal
 
 pub returns-clause-read : goal.returns-clause-read

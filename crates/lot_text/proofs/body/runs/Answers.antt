@@ -1,7 +1,6 @@
-use Rattle.lot_text.proofs.RunLemmas.{runs_line-none, runs_line-odd, runs_line-pairs, runs_line-without}
+use Rattle.lot_text.proofs.Lemmas.{reading_of, runs_line-none, runs_line-odd, runs_line-pairs, runs_line-without}
 use Rattle.lot_text.proofs.body.runs.Goals as goal
 use Rattle.lot_text.proofs.body.runs.Goals.{then-has_len-via-then-has_len, then-has_len-via-else-has_len+then-not-has_runs, then-has_len-via-else-has_len+else-not-has_runs+then-not-are_pairs}
-use Rattle.lot_text.specs.ReadingFields.{reading_of}
 
 pub returns : goal.returns
 returns c n =

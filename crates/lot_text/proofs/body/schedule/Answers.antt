@@ -1,6 +1,4 @@
-use Rattle.lot_text.proofs.Common.{arith, reading_of}
-use Rattle.lot_text.proofs.FaultLemmas.{Gives-memory}
-use Rattle.lot_text.proofs.ReadingLemmas.{with_schedule}
+use Rattle.lot_text.proofs.Lemmas.{Gives-memory, arith, reading_of, with_schedule}
 use Rattle.lot_text.proofs.body.schedule.Goals as goal
 
 pub invariant_of-reading : goal.invariant_of-reading

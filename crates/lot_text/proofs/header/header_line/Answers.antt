@@ -1,6 +1,4 @@
-use Rattle.std.proofs.Common.{◌∙◌, Ok, ap, sym}
-use Rattle.lot_text.proofs.FaultLemmas.{Gives-fault}
-use Rattle.lot_text.proofs.HeaderLemmas.{early-above, header-fails, header-read}
+use Rattle.lot_text.proofs.Lemmas.{Gives-fault, Ok, ap, early-above, header-fails, header-read, sym, ◌∙◌}
 use Rattle.lot_text.proofs.header.header_line.Goals as goal
 
 pub returns-in_err-header_arguments : goal.returns-in_err-header_arguments

@@ -1,6 +1,5 @@
-use Rattle.lot_text.proofs.Common.{header_line, refl}
+use Rattle.lot_text.proofs.Lemmas.{Gives-refusal, alone-refused, header_line, refl}
 use Rattle.lot_simulation.specs.declared.input.HeaderWord.TheVariants as header
-use Rattle.lot_text.proofs.FaultLemmas.{Gives-refusal, alone-refused}
 use Rattle.lot_text.proofs.header.read_duration.Goals as goal
 
 pub returns-in_err-duration : goal.returns-in_err-duration

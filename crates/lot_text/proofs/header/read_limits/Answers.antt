@@ -1,7 +1,5 @@
-use Rattle.lot_text.proofs.Common.{header_line, reading_of, refl, ◌∷◌}
+use Rattle.lot_text.proofs.Lemmas.{Gives-refusal, alone-refused, header_line, limits-read, reading_of, refl, with_limits, ◌∷◌}
 use Rattle.lot_simulation.specs.declared.input.HeaderWord.TheVariants as header
-use Rattle.lot_text.proofs.FaultLemmas.{Gives-refusal, alone-refused}
-use Rattle.lot_text.proofs.ReadingLemmas.{limits-read, with_limits}
 use Rattle.lot_text.proofs.header.read_limits.Goals as goal
 
 pub returns-in_err-tickets : goal.returns-in_err-tickets

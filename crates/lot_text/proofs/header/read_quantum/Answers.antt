@@ -1,7 +1,5 @@
-use Rattle.lot_text.proofs.Common.{List, Ok, Reading, header_line, number_alone, reading_of, refl, ℕ, [], ◌>>=◌, ◌∷◌, ◌≡◌}
+use Rattle.lot_text.proofs.Lemmas.{Gives-refusal, List, Ok, Reading, header_line, number_alone, reading_of, refl, with_settings, ℕ, [], ◌>>=◌, ◌∷◌, ◌≡◌}
 use Rattle.lot_simulation.specs.declared.input.HeaderWord.TheVariants as header
-use Rattle.lot_text.proofs.ReadingLemmas.{with_settings}
-use Rattle.lot_text.proofs.FaultLemmas.{Gives-refusal}
 use Rattle.lot_text.proofs.header.read_quantum.Goals as goal
 
 -- the number of the line is its only token

@@ -1,5 +1,4 @@
-use Rattle.lot_text.proofs.Common.{All-nil, All-push, All-same, IfOk-from_err, IsSeed, Ok, ap, append-nil, arith, length, length-append, number_between, [], ◌∙◌, ◌∷◌}
-use Rattle.lot_text.proofs.FaultLemmas.{Match-memory, Match-refusal, each-later, each-more, each-refused, more-read}
+use Rattle.lot_text.proofs.Lemmas.{All-nil, All-push, All-same, IfOk-from_err, IsSeed, Match-memory, Match-refusal, Ok, ap, append-nil, arith, each-later, each-more, each-refused, length, length-append, more-read, number_between, [], ◌∙◌, ◌∷◌}
 use Rattle.lot_text.proofs.header.read_seeds.Goals as goal
 
 pub returns-clause-read : goal.returns-clause-read

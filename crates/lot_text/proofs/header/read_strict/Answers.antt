@@ -1,7 +1,5 @@
-use Rattle.lot_text.proofs.Common.{header_line, reading_of, refl, true}
+use Rattle.lot_text.proofs.Lemmas.{Gives-refusal, header_line, none-refused, reading_of, refl, true, with_settings}
 use Rattle.lot_simulation.specs.declared.input.HeaderWord.TheVariants as header
-use Rattle.lot_text.proofs.ReadingLemmas.{with_settings}
-use Rattle.lot_text.proofs.FaultLemmas.{Gives-refusal, none-refused}
 use Rattle.lot_text.proofs.header.read_strict.Goals as goal
 
 pub returns-in_err-none : goal.returns-in_err-none

@@ -1,7 +1,5 @@
-use Rattle.lot_text.proofs.Common.{BadHeader, BadLine, Bool, Err, List, Reading, ap, bytes_eq, checked, codes, false, header_line, if◌then◌else◌, not, reading_of, refl, sym, true, without_line, ℕ, [], ◌∙◌, ◌∷◌, ◌≡◌}
+use Rattle.lot_text.proofs.Lemmas.{BadHeader, BadLine, Bool, Err, Gives-refusal, List, Reading, alone-refused, ap, bytes_eq, checked, codes, false, header_line, if◌then◌else◌, not, reading_of, refl, sym, true, with_without, without_line, ℕ, [], ◌∙◌, ◌∷◌, ◌≡◌}
 use Rattle.lot_simulation.specs.declared.input.HeaderWord.TheVariants as header
-use Rattle.lot_text.proofs.FaultLemmas.{Gives-refusal, alone-refused}
-use Rattle.lot_text.proofs.ReadingLemmas.{with_without}
 use Rattle.lot_text.proofs.header.read_without.Goals as goal
 
 -- only a timed input has such a line

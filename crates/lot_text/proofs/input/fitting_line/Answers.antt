@@ -1,6 +1,5 @@
 -- Each way out is a line of its own kind: ignored, not printable, without a token, a comment, the first, or a later one.
-use Rattle.lot_text.proofs.Common.{Ok, Reading, Some, refl}
-use Rattle.lot_text.proofs.FaultLemmas.{Fails-then, Gives-fault}
+use Rattle.lot_text.proofs.Lemmas.{Fails-then, Gives-fault, Ok, Reading, Some, refl}
 use Rattle.lot_text.proofs.input.fitting_line.Goals as goal
 
 pub returns-then-is_ignored : goal.returns-then-is_ignored

@@ -1,5 +1,4 @@
-use Rattle.lot_text.proofs.Common.{arith, drop, eqb-false, eqb-true, length, lines_of, refl, sym, take, take_rest, ◌+◌, ◌-◌, ◌<◌, ◌∙◌, ◌≡◌}
-use Rattle.lot_text.proofs.FirstLine.{last-line, read_lines-goes_on, lines_of-count, length-after, program_in-read, program_in-stops}
+use Rattle.lot_text.proofs.Lemmas.{arith, drop, eqb-false, eqb-true, last-line, length, length-after, lines_of, lines_of-count, program_in-read, program_in-stops, read_lines-goes_on, refl, sym, take, take_rest, ◌+◌, ◌-◌, ◌<◌, ◌∙◌, ◌≡◌}
 use Rattle.lot_text.proofs.input.parse.Goals as goal
 
 pub loop-rest-preserved : goal.loop-rest-preserved

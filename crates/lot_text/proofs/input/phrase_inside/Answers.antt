@@ -1,5 +1,4 @@
-use Rattle.lot_text.proofs.Common.{Err, Ok, OnOk, Result, Some, false, reading_of, refl, sym, true, ◌∙◌, ◌≡◌}
-use Rattle.lot_text.proofs.PhraseLemmas.{phrase-read}
+use Rattle.lot_text.proofs.Lemmas.{Err, Ok, OnOk, Result, Some, false, phrase-read, reading_of, refl, sym, true, ◌∙◌, ◌≡◌}
 use Rattle.lot_text.proofs.input.phrase_inside.Goals as goal
 
 -- what holds in any case holds on `Ok`

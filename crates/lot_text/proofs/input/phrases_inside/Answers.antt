@@ -1,6 +1,4 @@
-use Rattle.std.proofs.Common.{◌∙◌, sym}
-use Rattle.lot_text.proofs.FaultLemmas.{Gives-fault}
-use Rattle.lot_text.proofs.PhraseLemmas.{fewer-tokens, phrases-end, phrases-fail, phrases-go_on}
+use Rattle.lot_text.proofs.Lemmas.{Gives-fault, fewer-tokens, phrases-end, phrases-fail, phrases-go_on, sym, ◌∙◌}
 use Rattle.lot_text.proofs.input.phrases_inside.Goals as goal
 
 pub returns-in_err-phrase_inside : goal.returns-in_err-phrase_inside

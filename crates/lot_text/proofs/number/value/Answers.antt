@@ -1,5 +1,4 @@
-use Rattle.lot_text.proofs.Common.{arith, digits_value, drop, drop_all, sym, ◌≡◌}
-use Rattle.lot_text.proofs.NumberLemmas.{within_64_bits-of, digits_value_after-past}
+use Rattle.lot_text.proofs.Lemmas.{arith, digits_value, digits_value_after-past, drop, drop_all, sym, within_64_bits-of, ◌≡◌}
 use Rattle.lot_text.proofs.number.value.Goals as goal
 
 pub returns : goal.returns

@@ -1,5 +1,4 @@
-use Rattle.lot_text.proofs.Common.{IfOk-from_err, arith, length-actors_of, refl, sym, take, take_all, vec_len, ◌+◌, ◌-◌, ◌≡◌}
-use Rattle.lot_text.proofs.RunLemmas.{All-actors_of, actors_of-more}
+use Rattle.lot_text.proofs.Lemmas.{All-actors_of, IfOk-from_err, actors_of-more, arith, length-actors_of, refl, sym, take, take_all, vec_len, ◌+◌, ◌-◌, ◌≡◌}
 use Rattle.lot_text.proofs.runs.actors_of.Goals as goal
 
 pub returns-clause-count : goal.returns-clause-count

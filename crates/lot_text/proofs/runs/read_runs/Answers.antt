@@ -1,6 +1,4 @@
-use Rattle.lot_text.proofs.Common.{ActorRun, All-nil, All-push, All-same, IfOk-from_err, Ok, ap, append-nil, arith, length, run_of, [], ◌∙◌, ◌∷◌, ◌≤◌}
-use Rattle.lot_text.proofs.RunLemmas.{each_pair-none}
-use Rattle.lot_text.proofs.FaultLemmas.{Match-memory, Match-refusal, more-read, pair-later, pair-more, pair-refused}
+use Rattle.lot_text.proofs.Lemmas.{ActorRun, All-nil, All-push, All-same, IfOk-from_err, Match-memory, Match-refusal, Ok, ap, append-nil, arith, each_pair-none, length, more-read, pair-later, pair-more, pair-refused, run_of, [], ◌∙◌, ◌∷◌, ◌≤◌}
 use Rattle.lot_text.proofs.runs.read_runs.Goals as goal
 
 pub returns-clause-read : goal.returns-clause-read

@@ -1,7 +1,6 @@
-use Rattle.lot_text.proofs.Common.{List, OpenScript, Reading, add_line, number_alone, refl, script_line, within_script, ℕ, [], ◌>>=◌, ◌∷◌, ◌≡◌}
+use Rattle.lot_text.proofs.Lemmas.{Gives-refusal, List, OpenScript, Reading, add_line, number_alone, refl, script_line, within_script, ℕ, [], ◌>>=◌, ◌∷◌, ◌≡◌}
 use Rattle.lot_simulation.specs.declared.input.ScriptWord.TheVariants as word
 use Rattle.lot_simulation.specs.declared.script.ScriptLine.TheVariants as line
-use Rattle.lot_text.proofs.FaultLemmas.{Gives-refusal}
 use Rattle.lot_text.proofs.script_lines.add.Goals as goal
 
 -- the number of a line is its only token

@@ -1,5 +1,4 @@
-use Rattle.lot_text.proofs.Common.{Reading, length, reading_of, subst, sym, ◌<◌}
-use Rattle.lot_text.proofs.FaultLemmas.{Gives-memory}
+use Rattle.lot_text.proofs.Lemmas.{Gives-memory, Reading, length, reading_of, subst, sym, ◌<◌}
 use Rattle.lot_text.proofs.ReadingLemmas.{with_line}
 use Rattle.lot_text.proofs.script_lines.add_line.Goals as goal
 

@@ -1,6 +1,5 @@
-use Rattle.lot_text.proofs.Common.{refl, script_line, within_script}
+use Rattle.lot_text.proofs.Lemmas.{Gives-refusal, alone-refused, refl, script_line, within_script}
 use Rattle.lot_simulation.specs.declared.input.ScriptWord.TheVariants as word
-use Rattle.lot_text.proofs.FaultLemmas.{Gives-refusal, alone-refused}
 use Rattle.lot_text.proofs.script_lines.at_port.Goals as goal
 
 pub returns-in_err-port : goal.returns-in_err-port

@@ -1,7 +1,6 @@
-use Rattle.lot_text.proofs.Common.{List, OpenScript, Reading, Some, TooDeep, TooLong, ap, arith, checked, is_full, le-leb, lt-leb, nat_le, number_alone, refl, script_line, with_line, within_script, ℕ, [], ◌+◌, ◌<◌, ◌>>=◌, ◌∷◌, ◌≡◌, ◌≤◌}
+use Rattle.lot_text.proofs.Lemmas.{Gives-refusal, List, OpenScript, Reading, Some, TooDeep, TooLong, ap, arith, checked, is_full, le-leb, lt-leb, nat_le, number_alone, refl, script_line, with_line, within_script, ℕ, [], ◌+◌, ◌<◌, ◌>>=◌, ◌∷◌, ◌≡◌, ◌≤◌}
 use Rattle.lot_simulation.specs.declared.input.ScriptWord.TheVariants as word
 use Rattle.lot_simulation.specs.declared.script.ScriptLine.TheVariants as line
-use Rattle.lot_text.proofs.FaultLemmas.{Gives-refusal}
 use Rattle.lot_text.proofs.script_lines.begin_loop.Goals as goal
 
 -- the number of the line is its only token

@@ -1,6 +1,5 @@
-use Rattle.lot_text.proofs.Common.{refl, script_line, within_script}
+use Rattle.lot_text.proofs.Lemmas.{Gives-memory, Gives-refusal, none-refused, refl, script_line, within_script}
 use Rattle.lot_simulation.specs.declared.input.ScriptWord.TheVariants as word
-use Rattle.lot_text.proofs.FaultLemmas.{Gives-memory, Gives-refusal, none-refused}
 use Rattle.lot_text.proofs.script_lines.end_script.Goals as goal
 
 pub invariant_of-reading : goal.invariant_of-reading

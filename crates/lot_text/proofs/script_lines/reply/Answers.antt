@@ -1,6 +1,5 @@
-use Rattle.lot_text.proofs.Common.{refl, script_line, within_script}
+use Rattle.lot_text.proofs.Lemmas.{Gives-refusal, none-refused, refl, script_line, within_script}
 use Rattle.lot_simulation.specs.declared.input.ScriptWord.TheVariants as word
-use Rattle.lot_text.proofs.FaultLemmas.{Gives-refusal, none-refused}
 use Rattle.lot_text.proofs.script_lines.reply.Goals as goal
 
 pub returns-in_err-none : goal.returns-in_err-none

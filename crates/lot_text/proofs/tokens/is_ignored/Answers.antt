@@ -1,5 +1,4 @@
-use Rattle.lot_text.proofs.Common.{ap, arith, eqb-false, eqb-true, is_ignored, refl, separates, sym, ◌∙◌}
-use Rattle.lot_text.proofs.TokenLemmas.{ignored-next, parts-end}
+use Rattle.lot_text.proofs.Lemmas.{ap, arith, eqb-false, eqb-true, ignored-next, is_ignored, parts-end, refl, separates, sym, ◌∙◌}
 use Rattle.lot_text.proofs.tokens.is_ignored.Goals as goal
 
 pub returns-then-is_empty : goal.returns-then-is_empty

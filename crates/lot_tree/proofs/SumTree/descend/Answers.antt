@@ -1,9 +1,5 @@
 -- Each level narrows the places to one half, and counts its read.
-use Rattle.std.proofs.Common.{◌≡◌, ◌+◌, ◌-◌, ◌*◌, ◌^◌, ◌%◌, ◌<◌, ◌≤◌, inr, length, arith}
-use Rattle.std.proofs.lemmas.Bool.{le-leb, lt-leb}
-use Rattle.std.proofs.lemmas.Nat.{pow_pos}
-use Rattle.lot_tree.proofs.Descent.{IsNarrowed_right, IsNarrowed_left, IsNarrowed_short, IsDrawn-from_IsNarrowed, left-within, whole-half, whole-block, short-block}
-use Rattle.lot_tree.proofs.Visits.{IsCounted_read, IsCounted_short, CountsReads-from_IsCounted}
+use Rattle.lot_tree.proofs.Lemmas.{CountsReads-from_IsCounted, IsCounted_read, IsCounted_short, IsDrawn-from_IsNarrowed, IsNarrowed_left, IsNarrowed_right, IsNarrowed_short, arith, inr, le-leb, left-within, length, lt-leb, pow_pos, short-block, whole-block, whole-half, ◌%◌, ◌*◌, ◌+◌, ◌-◌, ◌<◌, ◌^◌, ◌≡◌, ◌≤◌}
 use Rattle.lot_tree.proofs.SumTree.descend.Goals as goal
 use Rattle.lot_tree.proofs.SumTree.descend.Goals.{then-is_past, else-is_past, then-is_whole-via-then-is_whole, then-is_whole-via-else-is_whole+then-block-n}
 

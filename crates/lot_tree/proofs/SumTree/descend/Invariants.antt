@@ -1,6 +1,4 @@
-use Rattle.std.proofs.Common.{◌⊎◌}
-use Rattle.lot_tree.proofs.Descent.{IsNarrowed}
-use Rattle.lot_tree.proofs.Visits.{IsUncounted, IsCounted}
+use Rattle.lot_tree.proofs.Lemmas.{IsCounted, IsNarrowed, IsUncounted, ◌⊎◌}
 use Rattle.lot_tree.proofs.SumTree.descend.Given as goal
 
 abbrev pub invariant-loop-level : goal.invariant-loop-level

@@ -1,10 +1,5 @@
 -- The climb from one partial sum over `i` to the next ends at the last of the first 2 ^ height places, or past the last.
-use Rattle.std.proofs.Common.{◌+◌, ◌<◌, ◌∙◌, length, inl, inr, refl, w64, arith}
-use Rattle.std.proofs.lemmas.Bool.{cases_lt}
-use Rattle.std.proofs.lemmas.List.{get_or-set_other}
-use Rattle.std.proofs.lemmas.Nat.{le_or_r}
-use Rattle.std.specs.Int.{trailing_ones}
-use Rattle.lot_tree.proofs.Levels.{IsWrittenBelow_past, IsWrittenBelow_top, lowest-below, next-last, last_below, last_sum_within, last_sum_written}
+use Rattle.lot_tree.proofs.Lemmas.{IsWrittenBelow_past, IsWrittenBelow_top, arith, cases_lt, get_or-set_other, inl, inr, last_below, last_sum_within, last_sum_written, le_or_r, length, lowest-below, next-last, refl, trailing_ones, w64, ◌+◌, ◌<◌, ◌∙◌}
 use Rattle.lot_tree.proofs.partial_sums.set_partial_sums.Goals as goal
 
 pub overflow_sub-sums : goal.overflow_sub-sums

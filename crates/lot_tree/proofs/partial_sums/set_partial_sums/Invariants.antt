@@ -1,5 +1,4 @@
-use Rattle.std.proofs.Common.{◌≡◌, ℕ, ◌-◌, ◌^◌, ◌≤◌, get_or}
-use Rattle.lot_tree.proofs.Levels.{IsClimbed}
+use Rattle.lot_tree.proofs.Lemmas.{IsClimbed, get_or, ℕ, ◌-◌, ◌^◌, ◌≡◌, ◌≤◌}
 use Rattle.lot_tree.proofs.partial_sums.set_partial_sums.Given as goal
 
 abbrev pub invariant-loop-last : goal.invariant-loop-last

@@ -1,8 +1,4 @@
-use Rattle.lot_value.proofs.Common.{HasEquation, IsListed, IsNodeOf, IsStale, Known, Node, ap, inl, inr, live_of, subst, sym, ◌∙◌, ◌≡◌, ◌⊎◌}
-use Rattle.lot_value.proofs.Ends.{there-edge, to-is}
-use Rattle.lot_value.proofs.OneEdge.{ends-have}
-use Rattle.lot_value.proofs.GraphCalls.{follows-one}
-use Rattle.lot_value.proofs.Touches.{touched-one, touched-then, listed-more}
+use Rattle.lot_value.proofs.Lemmas.{HasEquation, IsListed, IsNodeOf, IsStale, Known, Node, ap, ends-have, follows-one, inl, inr, listed-more, live_of, subst, sym, there-edge, to-is, touched-one, touched-then, ◌∙◌, ◌≡◌, ◌⊎◌}
 use Rattle.lot_value.proofs.edges.attach.Goals as goal
 
 pub touch_listed-requires : goal.touch_listed-requires

@@ -1,7 +1,4 @@
-use Rattle.lot_value.proofs.Common.{IsListed, Known, Node, ap, inl, inr, live_of, refl, ◌∙◌, ◌≡◌, ◌⊎◌}
-use Rattle.lot_value.proofs.OneEdge.{ends-have}
-use Rattle.lot_value.proofs.GraphCalls.{follows-one}
-use Rattle.lot_value.proofs.Touches.{touched-one, touched-then, listed-more}
+use Rattle.lot_value.proofs.Lemmas.{IsListed, Known, Node, ap, ends-have, follows-one, inl, inr, listed-more, live_of, refl, touched-one, touched-then, ◌∙◌, ◌≡◌, ◌⊎◌}
 use Rattle.lot_value.proofs.edges.detach.Goals as goal
 
 pub touch_listed-requires : goal.touch_listed-requires

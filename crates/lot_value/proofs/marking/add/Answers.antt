@@ -1,5 +1,4 @@
-use Rattle.lot_value.proofs.Common.{Contains, IsFree, nodes_of, subst, sym, ◌≡◌}
-use Rattle.lot_value.proofs.Spreading.{spread-push, spread-none, found-free, found-listed}
+use Rattle.lot_value.proofs.Lemmas.{Contains, IsFree, found-free, found-listed, nodes_of, spread-none, spread-push, subst, sym, ◌≡◌}
 use Rattle.lot_value.proofs.marking.add.Goals as goal
 
 pub push_back-requires-clause-free : goal.push_back-requires-clause-free

@@ -1,5 +1,4 @@
-use Rattle.lot_value.proofs.Common.{Layout, OfLender, Some, Thread, ap, arith, head_of, layout_of, lend_node, lender-edge, list-low, node_place, option_and_then, some-injective, sym, thread-edge, ◌∙◌, ◌≡◌}
-use Rattle.lot_value.proofs.Spreading.{spread-edge}
+use Rattle.lot_value.proofs.Lemmas.{Layout, OfLender, Some, Thread, ap, arith, head_of, layout_of, lend_node, lender-edge, list-low, node_place, option_and_then, some-injective, spread-edge, sym, thread-edge, ◌∙◌, ◌≡◌}
 use Rattle.lot_value.proofs.marking.add_borrower.Goals as goal
 use Rattle.lot_value.proofs.marking.add_borrower.Goals.{After-list_of}
 

@@ -1,6 +1,5 @@
-use Rattle.lot_value.proofs.Common.{Currency, HasEachOnce, IsIssuedIn, IsStaleList, Layout, List, OfTicket, Some, ap, arith, ends_of, layout_of, list-low, node_place, subst, sym, ticket-of, ℕ, ◌∙◌, ◌≡◌}
-use Rattle.lot_value.proofs.Listed.{each-next, each-here, each-done}
-use Rattle.lot_value.proofs.Spreading.{targets-none, funded-ends, funded-none, funded-more, funded-skip, funded-all}
+use Rattle.lot_value.proofs.Lemmas.{Currency, HasEachOnce, IsIssuedIn, IsStaleList, Layout, List, OfTicket, Some, ap, arith, each-done, each-here, each-next, ends_of, funded-all, funded-ends, funded-none, funded-skip, layout_of, list-low, node_place, subst, sym, targets-none, ticket-of, ℕ, ◌∙◌, ◌≡◌}
+use Rattle.lot_value.proofs.Spreading.{funded-more}
 use Rattle.lot_value.proofs.marking.add_funded.Goals as goal
 use Rattle.lot_value.proofs.marking.add_funded.Goals.{In_default, After-list_of}
 

@@ -1,5 +1,4 @@
-use Rattle.lot_value.proofs.Common.{Currency, HasEachOnce, IsIssuedIn, IsStaleList, OfTicket, Spreads, layout_of, map, node_count, ◌++◌}
-use Rattle.lot_value.proofs.Spreading.{IsTargetOf}
+use Rattle.lot_value.proofs.Lemmas.{Currency, HasEachOnce, IsIssuedIn, IsStaleList, IsTargetOf, OfTicket, Spreads, layout_of, map, node_count, ◌++◌}
 use Rattle.lot_value.proofs.marking.add_funded.Given as goal
 
 -- the tickets are those that were yielded and those that are left, and what the former fund was added

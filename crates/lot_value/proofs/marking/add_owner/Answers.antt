@@ -1,5 +1,4 @@
-use Rattle.lot_value.proofs.Common.{Layout, Mutex, OfMutex, Some, Thread, ap, arith, head_of, layout_of, list-low, mutex-edge, node_place, option_map, owner-edge, some-injective, sym, ◌∙◌, ◌≡◌}
-use Rattle.lot_value.proofs.Spreading.{spread-edge}
+use Rattle.lot_value.proofs.Lemmas.{Layout, Mutex, OfMutex, Some, Thread, ap, arith, head_of, layout_of, list-low, mutex-edge, node_place, option_map, owner-edge, some-injective, spread-edge, sym, ◌∙◌, ◌≡◌}
 use Rattle.lot_value.proofs.marking.add_owner.Goals as goal
 use Rattle.lot_value.proofs.marking.add_owner.Goals.{After-list_of}
 

@@ -1,6 +1,4 @@
-use Rattle.lot_value.proofs.Common.{Contains, IsFree, Layout, ap, arith, layout_of, list-low, node_place, nodes_of, subst, ◌∙◌}
-use Rattle.lot_value.proofs.Nodes.{node-within}
-use Rattle.lot_value.proofs.Spreading.{marks-nothing, listed-some, listed-free}
+use Rattle.lot_value.proofs.Lemmas.{Contains, IsFree, Layout, ap, arith, layout_of, list-low, listed-free, listed-some, marks-nothing, node-within, node_place, nodes_of, subst, ◌∙◌}
 use Rattle.lot_value.proofs.marking.mark.Goals as goal
 
 pub returns-then-is_some-clause-marks : goal.returns-then-is_some-clause-marks

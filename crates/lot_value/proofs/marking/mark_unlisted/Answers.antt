@@ -1,8 +1,4 @@
-use Rattle.lot_value.proofs.Common.{IsNodeWithin, Layout, LeadsToPlace, Node, Some, Spreads, ap, arith, contains-at, layout_of, length, list-back, list-low, node_at, node_count, node_of, nodes_of, subst, sym, with_pushed, ◌+◌, ◌<◌, ◌∙◌}
-use Rattle.lot_value.proofs.Nodes.{node-within, within-node}
-use Rattle.lot_value.proofs.Listed.{listed-low}
-use Rattle.lot_value.proofs.Raising.{same-list}
-use Rattle.lot_value.proofs.Spreading.{followed-start, followed-more, followed-end, followed-marks}
+use Rattle.lot_value.proofs.Lemmas.{IsNodeWithin, Layout, LeadsToPlace, Node, Some, Spreads, ap, arith, contains-at, followed-end, followed-marks, followed-more, followed-start, layout_of, length, list-back, list-low, listed-low, node-within, node_at, node_count, node_of, nodes_of, same-list, subst, sym, with_pushed, within-node, ◌+◌, ◌<◌, ◌∙◌}
 use Rattle.lot_value.proofs.marking.mark_unlisted.Goals as goal
 
 pub push_back-requires-clause-node_exists : goal.push_back-requires-clause-node_exists

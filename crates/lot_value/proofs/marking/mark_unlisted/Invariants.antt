@@ -1,5 +1,4 @@
-use Rattle.lot_value.proofs.Common.{IsStaleList, layout_of, length, node_at, node_count, nodes_of, ◌+◌, ◌≡◌}
-use Rattle.lot_value.proofs.Spreading.{IsFollowed}
+use Rattle.lot_value.proofs.Lemmas.{IsFollowed, IsStaleList, layout_of, length, node_at, node_count, nodes_of, ◌+◌, ◌≡◌}
 use Rattle.lot_value.proofs.marking.mark_unlisted.Given as goal
 
 -- as many of the places that were listed after the old ones were followed as there were iterations

@@ -1,7 +1,4 @@
-use Rattle.lot_value.proofs.Common.{Edge, HasEachOnce, LeadsInto, List, ap, arith, counted_up, kept_worth, layout_of, length, length_push, refl, share, subst, sum_by_push, sym, [], ◌++◌, ◌+◌, ◌∙◌, ◌∷◌, ◌≡◌}
-use Rattle.lot_value.proofs.Counting.{counted-more}
-use Rattle.lot_value.proofs.Reading.{next-sum, all-sum, all-count}
-use Rattle.lot_value.proofs.Listed.{each-next, each-here}
+use Rattle.lot_value.proofs.Lemmas.{Edge, HasEachOnce, LeadsInto, List, all-count, all-sum, ap, arith, counted-more, counted_up, each-here, each-next, kept_worth, layout_of, length, length_push, next-sum, refl, share, subst, sum_by_push, sym, [], ◌++◌, ◌+◌, ◌∙◌, ◌∷◌, ◌≡◌}
 use Rattle.lot_value.proofs.readings.read_value.Goals as goal
 
 pub loop-edge-init : goal.loop-edge-init

@@ -1,5 +1,4 @@
-use Rattle.lot_value.proofs.Common.{AreSources, Bool, List, OfTicket, ap, ap₂, arith, kept_worth, layout_of, share, slice_index_or, sym, ℕ, ◌*◌, ◌/◌, ◌∙◌, ◌≡◌}
-use Rattle.lot_value.proofs.Shares.{active-is, share-off, share-base, share-user, share-amount, ticket-here, ticket-target}
+use Rattle.lot_value.proofs.Lemmas.{AreSources, Bool, List, OfTicket, active-is, ap, ap₂, arith, kept_worth, layout_of, share, share-amount, share-base, share-off, share-user, slice_index_or, sym, ticket-here, ticket-target, ℕ, ◌*◌, ◌/◌, ◌∙◌, ◌≡◌}
 use Rattle.lot_value.proofs.readings.ticket_share.Goals as goal
 
 pub is_active-requires : goal.is_active-requires

@@ -1,5 +1,4 @@
-use Rattle.lot_value.proofs.Common.{Ticket, ap, option_map}
-use Rattle.lot_value.proofs.Amounts.{is-funding, free-target, changed-target, changed-there, changed-apart, reissued-again}
+use Rattle.lot_value.proofs.Lemmas.{Ticket, ap, changed-apart, changed-target, changed-there, free-target, is-funding, option_map, reissued-again}
 use Rattle.lot_value.proofs.reissuing.fund_again.Goals as goal
 
 pub unfund-requires : goal.unfund-requires

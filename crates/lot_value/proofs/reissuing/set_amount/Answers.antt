@@ -1,6 +1,4 @@
-use Rattle.lot_value.proofs.Common.{LimitedFunding, SetAmount, ap, sym, ticket_at, ◌∙◌}
-use Rattle.lot_value.proofs.Amounts.{amount-same}
-use Rattle.lot_value.proofs.Applied.{done, follows-none}
+use Rattle.lot_value.proofs.Lemmas.{LimitedFunding, SetAmount, amount-same, ap, done, follows-none, sym, ticket_at, ◌∙◌}
 use Rattle.lot_value.proofs.reissuing.set_amount.Goals as goal
 
 pub returns-then-before-amount-clause-applied : goal.returns-then-before-amount-clause-applied

@@ -1,5 +1,4 @@
-use Rattle.lot_value.proofs.Common.{PutThread, subst, sym}
-use Rattle.lot_value.proofs.Applied.{Done, live-and-lend, lend-and-sleep}
+use Rattle.lot_value.proofs.Lemmas.{Done, PutThread, lend-and-sleep, live-and-lend, subst, sym}
 use Rattle.lot_value.proofs.relending.put_thread.Goals as goal
 
 pub returns-then-live : goal.returns-then-live

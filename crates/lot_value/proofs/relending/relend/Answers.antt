@@ -1,7 +1,4 @@
-use Rattle.lot_value.proofs.Common.{Nobody, Some, ap, refl, ◌∙◌, ◌≡◌}
-use Rattle.lot_value.proofs.TwoChanges.{follows-both}
-use Rattle.lot_value.proofs.Lending.{lend-kept, lend-twice, lends-nobody, edges-lent, apart-fewer, number-some}
-use Rattle.lot_value.proofs.Applied.{follows-none}
+use Rattle.lot_value.proofs.Lemmas.{Nobody, Some, ap, apart-fewer, edges-lent, follows-both, follows-none, lend-kept, lend-twice, lends-nobody, number-some, refl, ◌∙◌, ◌≡◌}
 use Rattle.lot_value.proofs.relending.relend.Goals as goal
 
 pub returns-then-lends : goal.returns-then-lends

@@ -1,6 +1,4 @@
-use Rattle.lot_value.proofs.Common.{Nobody, refl}
-use Rattle.lot_value.proofs.Lending.{lend-kept}
-use Rattle.lot_value.proofs.Applied.{follows-none}
+use Rattle.lot_value.proofs.Lemmas.{Nobody, follows-none, lend-kept, refl}
 use Rattle.lot_value.proofs.relending.unlend.Goals as goal
 
 pub returns-else-not-lends : goal.returns-else-not-lends

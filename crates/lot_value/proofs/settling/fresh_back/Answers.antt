@@ -1,7 +1,4 @@
-use Rattle.lot_value.proofs.Common.{IsFreshPlace, IsNodeWithin, Layout, LeadsFromPlace, Node, NodeLists, OnFalse_at, OnTrue_at, ap, contains-at, layout_of, list-back, node_count, node_of, nodes_of, subst, sym, ◌<◌, ◌∙◌}
-use Rattle.lot_value.proofs.Listed.{list-within, reordered-same, reordered-then}
-use Rattle.lot_value.proofs.Nodes.{within-node}
-use Rattle.lot_value.proofs.Settled.{rank-falls, fresh-place, last-none}
+use Rattle.lot_value.proofs.Lemmas.{IsFreshPlace, IsNodeWithin, Layout, LeadsFromPlace, Node, NodeLists, OnFalse_at, OnTrue_at, ap, contains-at, fresh-place, last-none, layout_of, list-back, list-within, node_count, node_of, nodes_of, rank-falls, reordered-same, reordered-then, subst, sym, within-node, ◌<◌, ◌∙◌}
 use Rattle.lot_value.proofs.settling.fresh_back.Goals as goal
 
 pub returns-then-not-raise_sources-clause-fresh : goal.returns-then-not-raise_sources-clause-fresh

@@ -1,5 +1,4 @@
-use Rattle.lot_value.proofs.Common.{IsReordered, IsStaleList, last_of, layout_of, node_count, nodes_of}
-use Rattle.lot_value.proofs.Settled.{rank_of}
+use Rattle.lot_value.proofs.Lemmas.{IsReordered, IsStaleList, last_of, layout_of, node_count, nodes_of, rank_of}
 use Rattle.lot_value.proofs.settling.fresh_back.Given as goal
 
 -- the stale nodes are those of before in some order

@@ -1,7 +1,4 @@
-use Rattle.lot_value.proofs.Common.{Contains, Edge, HasEachOnce, IsEdge, Layout, LeadsInto, List, Node, OnFalse_from, Some, ap, arith, ends_of, false, layout_of, list-low, node_place, nodes_of, some-injective, subst, sym, ◌∙◌, ◌≡◌}
-use Rattle.lot_value.proofs.Listed.{each-next, each-here, each-done}
-use Rattle.lot_value.proofs.Spreading.{listed-some}
-use Rattle.lot_value.proofs.Raising.{free-none, raising-start, raising-kept, raising-none}
+use Rattle.lot_value.proofs.Lemmas.{Contains, Edge, HasEachOnce, IsEdge, Layout, LeadsInto, List, Node, OnFalse_from, Some, ap, arith, each-done, each-here, each-next, ends_of, false, free-none, layout_of, list-low, listed-some, node_place, nodes_of, raising-kept, raising-none, raising-start, some-injective, subst, sym, ◌∙◌, ◌≡◌}
 use Rattle.lot_value.proofs.settling.has_stale_source.Goals as goal
 use Rattle.lot_value.proofs.settling.has_stale_source.Goals.{After-list_of-place}
 

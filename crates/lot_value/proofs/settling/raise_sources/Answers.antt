@@ -1,7 +1,4 @@
-use Rattle.lot_value.proofs.Common.{Contains, Edge, HasEachOnce, Layout, LeadsInto, List, Some, ap, arith, layout_of, list-low, node_place, nodes_of, place-in, some-injective, subst, sym, with_pushed, with_removed, ◌∙◌}
-use Rattle.lot_value.proofs.Listed.{each-next, each-here, each-done}
-use Rattle.lot_value.proofs.Spreading.{listed-some}
-use Rattle.lot_value.proofs.Raising.{same-list, free-none, raising-start, raising-moved, raising-kept, raising-raised, raising-none}
+use Rattle.lot_value.proofs.Lemmas.{Contains, Edge, HasEachOnce, Layout, LeadsInto, List, Some, ap, arith, each-done, each-here, each-next, free-none, layout_of, list-low, listed-some, node_place, nodes_of, place-in, raising-kept, raising-moved, raising-none, raising-raised, raising-start, same-list, some-injective, subst, sym, with_pushed, with_removed, ◌∙◌}
 use Rattle.lot_value.proofs.settling.raise_sources.Goals as goal
 
 pub source_of_edge-requires : goal.source_of_edge-requires

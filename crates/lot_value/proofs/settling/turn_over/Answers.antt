@@ -1,5 +1,4 @@
-use Rattle.lot_value.proofs.Common.{IsReordered, Some, length-set, node_at, nodes_of, remove, subst, sym, ◌∙◌, ◌≡◌}
-use Rattle.lot_value.proofs.Listed.{moved-is, reordered-move}
+use Rattle.lot_value.proofs.Lemmas.{IsReordered, Some, length-set, moved-is, node_at, nodes_of, remove, reordered-move, subst, sym, ◌∙◌, ◌≡◌}
 use Rattle.lot_value.proofs.settling.turn_over.Goals as goal
 
 pub returns-clause-reordered : goal.returns-clause-reordered

@@ -1,5 +1,4 @@
-use Rattle.lot_value.proofs.Common.{IsEdge, IsFundedBy, IsUser, Known, List, Node, ap, arith, common_steps, contains-nothing, subst, sym, ◌∙◌}
-use Rattle.lot_value.proofs.Touches.{touched-none, touched-then, funded-more, next-listed, all-yielded}
+use Rattle.lot_value.proofs.Lemmas.{IsEdge, IsFundedBy, IsUser, Known, List, Node, all-yielded, ap, arith, common_steps, contains-nothing, funded-more, next-listed, subst, sym, touched-none, touched-then, ◌∙◌}
 use Rattle.lot_value.proofs.touching.touch_funded.Goals as goal
 
 pub loop-node-init : goal.loop-node-init

@@ -1,5 +1,4 @@
-use Rattle.lot_value.proofs.Common.{IsEdge, IsUser, Node}
-use Rattle.lot_value.proofs.Touches.{touched-none, touched-then}
+use Rattle.lot_value.proofs.Lemmas.{IsEdge, IsUser, Node, touched-none, touched-then}
 use Rattle.lot_value.proofs.touching.touch_funded_by.Goals as goal
 
 pub returns-then-is_user_currency-clause-touched : goal.returns-then-is_user_currency-clause-touched

@@ -1,5 +1,4 @@
-use Rattle.lot_value.proofs.Common.{Contains, IsFundedBy, IsListed, IsSwitchedOrFunded, Known, List, Node, ap, inr, subst, ◌∙◌}
-use Rattle.lot_value.proofs.Touches.{touched-then, listed-so, listed-all}
+use Rattle.lot_value.proofs.Lemmas.{Contains, IsFundedBy, IsListed, IsSwitchedOrFunded, Known, List, Node, ap, inr, listed-all, listed-so, subst, touched-then, ◌∙◌}
 use Rattle.lot_value.proofs.touching.touch_listed.Goals as goal
 
 pub returns-clause-touched : goal.returns-clause-touched

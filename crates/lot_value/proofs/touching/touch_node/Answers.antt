@@ -1,5 +1,4 @@
-use Rattle.lot_value.proofs.Common.{HasEquation, Node, refl, ◌≡◌}
-use Rattle.lot_value.proofs.Touches.{touched-one}
+use Rattle.lot_value.proofs.Lemmas.{HasEquation, Node, refl, touched-one, ◌≡◌}
 use Rattle.lot_value.proofs.touching.touch_node.Goals as goal
 
 pub returns-then-has_equation-clause-touched : goal.returns-then-has_equation-clause-touched

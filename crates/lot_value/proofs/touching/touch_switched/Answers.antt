@@ -1,5 +1,4 @@
-use Rattle.lot_value.proofs.Common.{Contains, HasEquation, IsEdge, IsFundedBy, IsSwitchedOrFunded, IsUser, Known, List, Node, ap, arith, common_steps, contains-nothing, inl, inr, subst, switched_nodes, sym, ◌∙◌, ◌≡◌}
-use Rattle.lot_value.proofs.Touches.{touched-none, touched-then, marked-more, funded-more, next-listed, all-yielded}
+use Rattle.lot_value.proofs.Lemmas.{Contains, HasEquation, IsEdge, IsFundedBy, IsSwitchedOrFunded, IsUser, Known, List, Node, all-yielded, ap, arith, common_steps, contains-nothing, funded-more, inl, inr, marked-more, next-listed, subst, switched_nodes, sym, touched-none, touched-then, ◌∙◌, ◌≡◌}
 use Rattle.lot_value.proofs.touching.touch_switched.Goals as goal
 
 pub loop-node-init : goal.loop-node-init

@@ -1,8 +1,4 @@
-use Rattle.lot_value.proofs.Common.{Edge, HasEachOnce, IsEdge, IsNodeOf, Known, LeadsOutOf, List, Node, Some, ap, contains-nothing, subst, sym, ◌∙◌}
-use Rattle.lot_value.proofs.Nodes.{within-node}
-use Rattle.lot_value.proofs.Ends.{edge-there, to-is}
-use Rattle.lot_value.proofs.Listed.{each-next, each-here, each-done}
-use Rattle.lot_value.proofs.Touches.{touched-none, touched-one, touched-then, targets-marked}
+use Rattle.lot_value.proofs.Lemmas.{Edge, HasEachOnce, IsEdge, IsNodeOf, Known, LeadsOutOf, List, Node, Some, ap, contains-nothing, each-done, each-here, each-next, edge-there, subst, sym, targets-marked, to-is, touched-none, touched-one, touched-then, within-node, ◌∙◌}
 use Rattle.lot_value.proofs.touching.touch_targets.Goals as goal
 
 pub loop-edge-init : goal.loop-edge-init

@@ -1,7 +1,4 @@
-use Rattle.lot_active.proofs.Common.{Adds, Changes, EdgePlaces, ap, edge_place, graph_net, layout_of, places_of_ends, subst, sym, ◌∙◌, ◌≡◌}
-use Rattle.lot_active.proofs.Edits.{same-ends, adds-net, ends-there}
-use Rattle.lot_active.proofs.Bridge.{graph-net, graph-no_cycle, kept-moves}
-use Rattle.lot_active.proofs.NodeChanges.{changes-nodes}
+use Rattle.lot_active.proofs.Lemmas.{Adds, Changes, EdgePlaces, adds-net, ap, changes-nodes, edge_place, ends-there, graph-net, graph-no_cycle, graph_net, kept-moves, layout_of, places_of_ends, same-ends, subst, sym, ◌∙◌, ◌≡◌}
 use Rattle.lot_active.proofs.active.Active.attach.Goals as goal
 
 pub unreachable-requires : goal.unreachable-requires

@@ -1,7 +1,4 @@
-use Rattle.lot_active.proofs.Common.{Adds, Changes, EdgePlaces, IsNodeWithin, Layout, ap, edge_place, graph_net, layout_of, places_of_ends, subst, sym, ◌∙◌, ◌≡◌}
-use Rattle.lot_active.proofs.Edits.{adds-net, ends-there}
-use Rattle.lot_active.proofs.Bridge.{graph-net, graph-no_cycle, kept-moves}
-use Rattle.lot_active.proofs.NodeChanges.{changes-nodes}
+use Rattle.lot_active.proofs.Lemmas.{Adds, Changes, EdgePlaces, IsNodeWithin, Layout, adds-net, ap, changes-nodes, edge_place, ends-there, graph-net, graph-no_cycle, graph_net, kept-moves, layout_of, places_of_ends, subst, sym, ◌∙◌, ◌≡◌}
 use Rattle.lot_active.proofs.active.Active.detach.Goals as goal
 
 pub detach_places-requires-clause-no_cycle : goal.detach_places-requires-clause-no_cycle

@@ -1,7 +1,4 @@
-use Rattle.lot_active.proofs.Common.{Activity, Adjusts, Held, Spreading, ap, arith, false, graph_net, length, on_at, sym, true, ℕ, ◌<◌, ◌∙◌, ◌≡◌}
-use Rattle.lot_active.proofs.Local.{IsLocal, kept-local}
-use Rattle.lot_active.proofs.Calls.{detach-spreads, detach-none, detach-may, local-by, end-kept, end-changes_from, net-less}
-use Rattle.lot_active.proofs.Steps.{adjust-length}
+use Rattle.lot_active.proofs.Lemmas.{Activity, Adjusts, Held, IsLocal, Spreading, adjust-length, ap, arith, detach-may, detach-none, detach-spreads, end-changes_from, end-kept, false, graph_net, kept-local, length, local-by, net-less, on_at, sym, true, ℕ, ◌<◌, ◌∙◌, ◌≡◌}
 use Rattle.lot_active.proofs.active.Active.detach_places.Goals as goal
 use Rattle.lot_active.proofs.active.Active.detach_places.Goals.{After-clear}
 

@@ -1,5 +1,4 @@
-use Rattle.lot_active.specs.Fundings.{graph_net}
-use Rattle.lot_active.proofs.Turned.{turn-changes, turn-kept, turn-spreads}
+use Rattle.lot_active.proofs.Lemmas.{graph_net, turn-changes, turn-kept, turn-spreads}
 use Rattle.lot_active.proofs.active.Active.set_awake.Goals as goal
 
 pub propagate-requires-clause-spreading : goal.propagate-requires-clause-spreading

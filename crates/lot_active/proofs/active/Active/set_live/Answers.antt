@@ -1,5 +1,4 @@
-use Rattle.lot_active.proofs.Bridge.{graph-net, graph-no_cycle}
-use Rattle.lot_active.proofs.Turned.{turn-lives, turn-low, turn-nodes}
+use Rattle.lot_active.proofs.Lemmas.{graph-net, graph-no_cycle, turn-lives, turn-low, turn-nodes}
 use Rattle.lot_active.proofs.active.Active.set_live.Goals as goal
 
 pub set_awake-requires : goal.set_awake-requires

@@ -1,8 +1,4 @@
-use Rattle.lot_active.proofs.Common.{Adjusts, Crossing, EdgePlaces, EdgeSource, List, MayMove, Some, ap, arith, edge_place, graph_net, held_at, layout_of, map, map-append, places_of_edge, some-injective, subst, sym, ℕ, [], ◌∙◌, ◌∷◌, ◌≡◌}
-use Rattle.lot_active.proofs.Ends.{net-sound}
-use Rattle.lot_active.proofs.Walks.{places-at, next-places, next-to, next-new, next-more, all-done}
-use Rattle.lot_active.proofs.Steps.{adjust-length}
-use Rattle.lot_active.proofs.Notes.{crossing-may, crossing-step, crossing-switched, crossing-end}
+use Rattle.lot_active.proofs.Lemmas.{Adjusts, Crossing, EdgePlaces, EdgeSource, List, MayMove, Some, adjust-length, all-done, ap, arith, crossing-end, crossing-may, crossing-step, crossing-switched, edge_place, graph_net, held_at, layout_of, map, map-append, net-sound, next-more, next-new, next-places, next-to, places-at, places_of_edge, some-injective, subst, sym, ℕ, [], ◌∙◌, ◌∷◌, ◌≡◌}
 use Rattle.lot_active.proofs.marks.Marks.publish.Goals as goal
 use Rattle.lot_active.proofs.marks.Marks.publish.Goals.{After-source_of_edge}
 

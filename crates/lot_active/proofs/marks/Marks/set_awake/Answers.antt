@@ -1,5 +1,4 @@
-use Rattle.lot_active.proofs.Common.{Held, SetsAwake, arith, false, get_or_read, length, refl, slice_set, subst, sym, ◌<◌, ◌∙◌}
-use Rattle.lot_active.proofs.Steps.{awake-switched, awake-kept, mark-read, mark-woken}
+use Rattle.lot_active.proofs.Lemmas.{Held, SetsAwake, arith, awake-kept, awake-switched, false, get_or_read, length, mark-read, mark-woken, refl, slice_set, subst, sym, ◌<◌, ◌∙◌}
 use Rattle.lot_active.proofs.marks.Marks.set_awake.Goals as goal
 
 pub returns-then-is_marked-was : goal.returns-then-is_marked-was

@@ -1,7 +1,6 @@
 -- A `&` to a reader is made of a borrow of its share of the token. Assumes `Logic`.
-use Rattle.lot_c.proofs.Common.{RawPtr-copy, RawPtr-field, copy_shared, handle_shares, of_Lends}
+use Rattle.lot_c.proofs.Lemmas.{Lends-loan, RawPtr-copy, RawPtr-field, copy_shared, handle-shares_laws, handle_shares, of_Lends}
 use Rattle.lot_c.specs.contracts.reader.Reader as reader
-use Rattle.lot_c.proofs.Shared.{Lends-loan, handle-shares_laws}
 use Rattle.lot_c.proofs.reader.Reader.TheLaw.Statement.{statement}
 
 pub shares : statement

@@ -1,5 +1,4 @@
-use Rattle.lot_chart.proofs.Common.{Answered, HasSearched, Program, ap, arith, length-append, subst, sym, turn_stretches, [], ◌++◌, ◌∙◌, ◌∷◌}
-use Rattle.lot_chart.proofs.Notes.{answered-noted, commands-noted, early-noted, ended-commands, ended-noted, turn-ran}
+use Rattle.lot_chart.proofs.Lemmas.{Answered, HasSearched, Program, answered-noted, ap, arith, commands-noted, early-noted, ended-commands, ended-noted, length-append, subst, sym, turn-ran, turn_stretches, [], ◌++◌, ◌∙◌, ◌∷◌}
 use Rattle.lot_chart.proofs.gathering.StretchesObserver.after.Goals as goal
 
 pub end_of-end-requires : goal.end_of-end-requires

@@ -1,6 +1,4 @@
-use Rattle.lot_chart.proofs.Common.{IsSome, None, Option, Some, arith, program_turns, refl, ℕ, ◌≡◌}
-use Rattle.lot_chart.proofs.Notes.{program-few}
-use Rattle.lot_chart.proofs.MeterFacts.{dues-are, meter-within, new-meter}
+use Rattle.lot_chart.proofs.Lemmas.{IsSome, None, Option, Some, arith, dues-are, meter-within, new-meter, program-few, program_turns, refl, ℕ, ◌≡◌}
 use Rattle.lot_chart.proofs.metering.LineDues.of_timed.Goals as goal
 
 duration-is : (o : Option ℕ) → IsSome o → (d : ℕ) × (o ≡ Some d)

@@ -1,5 +1,4 @@
-use Rattle.lot_chart.proofs.Common.{AreDues, Curves, Dues, Gauge, LineDues, List, Standing, ap, arith, cond, due_share, eq-eqb, get_or, grown_at, grown_in, last_end, length, line_parts, ne_eqb, sample_count, sample_tick, subst, sum_by, sym, tick_parts, ℕ, ◌*◌, ◌-◌, ◌<◌, ◌∙◌, ◌≡◌, ◌≤◌}
-use Rattle.lot_chart.proofs.MeterFacts.{sums-same}
+use Rattle.lot_chart.proofs.Lemmas.{AreDues, Curves, Dues, Gauge, LineDues, List, Standing, ap, arith, cond, due_share, eq-eqb, get_or, grown_at, grown_in, last_end, length, line_parts, ne_eqb, sample_count, sample_tick, subst, sum_by, sums-same, sym, tick_parts, ℕ, ◌*◌, ◌-◌, ◌<◌, ◌∙◌, ◌≡◌, ◌≤◌}
 use Rattle.lot_chart.proofs.metering.LineDues.share.Goals.{then-thread-eq0, else-thread-eq0}
 use Rattle.lot_chart.proofs.metering.LineDues.share.Goals as goal
 

@@ -1,5 +1,4 @@
-use Rattle.std.proofs.Common.{rules}
-use Rattle.lot_chart.proofs.MeterFacts.{meter-kept, meter-renewed, meter-within, passed-columns, ran-sound}
+use Rattle.lot_chart.proofs.Lemmas.{meter-kept, meter-renewed, meter-within, passed-columns, ran-sound, rules}
 use Rattle.lot_chart.proofs.metering.MeterObserver.after.Goals as goal
 
 pub pass-requires-clause-within : goal.pass-requires-clause-within

@@ -1,5 +1,4 @@
-use Rattle.lot_chart.proofs.Common.{codes, decimal, on_ok_weaker, ◌%◌, ◌++◌, ◌/◌}
-use Rattle.lot_chart.proofs.Parts.{parts-two}
+use Rattle.lot_chart.proofs.Lemmas.{codes, decimal, on_ok_weaker, parts-two, ◌%◌, ◌++◌, ◌/◌}
 use Rattle.lot_chart.proofs.text.Text.push_tenths.Goals as goal
 
 pub returns : goal.returns

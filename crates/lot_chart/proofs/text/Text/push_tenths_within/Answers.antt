@@ -1,5 +1,4 @@
-use Rattle.lot_chart.proofs.Common.{on_ok_weaker, tenths, ◌++◌}
-use Rattle.lot_chart.proofs.Parts.{parts-two}
+use Rattle.lot_chart.proofs.Lemmas.{on_ok_weaker, parts-two, tenths, ◌++◌}
 use Rattle.lot_chart.proofs.text.Text.push_tenths_within.Goals as goal
 
 pub returns : goal.returns

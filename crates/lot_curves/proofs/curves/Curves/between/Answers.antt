@@ -1,8 +1,4 @@
-use Rattle.std.proofs.Common.{rules, ◌≡◌, ◌-◌, ◌≤◌, ◌++◌, drop, length, map, min, take, ap, sym, ◌∙◌, arith}
-use Rattle.std.proofs.lemmas.List.{take_at}
-use Rattle.lot_curves.specs.Curves.{Curves}
-use Rattle.lot_curves.specs.Stretches.{last_end, stretch_between}
-use Rattle.lot_curves.proofs.Cuts.{last_end-between}
+use Rattle.lot_curves.proofs.Lemmas.{Curves, ap, arith, drop, last_end, last_end-between, length, map, min, rules, stretch_between, sym, take, take_at, ◌++◌, ◌-◌, ◌∙◌, ◌≡◌, ◌≤◌}
 use Rattle.lot_curves.proofs.curves.Curves.between.Goals as goal
 
 pub invariant_of-result : goal.invariant_of-result

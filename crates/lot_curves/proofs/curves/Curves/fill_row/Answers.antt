@@ -1,9 +1,4 @@
-use Rattle.std.proofs.Common.{◌≡◌, ◌+◌, List, length, take, ap, ◌∙◌, arith}
-use Rattle.std.proofs.lemmas.List.{take_all}
-use Rattle.lot_curves.specs.declared.stretch.Stretch.{Stretch}
-use Rattle.lot_curves.specs.Stretches.{stretches_of}
-use Rattle.lot_curves.specs.Windows.{had_in}
-use Rattle.lot_curves.proofs.Rows.{row-is}
+use Rattle.lot_curves.proofs.Lemmas.{List, Stretch, ap, arith, had_in, length, row-is, stretches_of, take, take_all, ◌+◌, ◌∙◌, ◌≡◌}
 use Rattle.lot_curves.proofs.curves.Curves.fill_row.Goals as goal
 
 pub returns : goal.returns

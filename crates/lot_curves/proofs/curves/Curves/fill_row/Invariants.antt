@@ -1,6 +1,4 @@
-use Rattle.std.proofs.Common.{◌≡◌, ℕ, ◌+◌, ◌*◌, ◌<◌, ◌≤◌, ◌^◌, get_or, length, take}
-use Rattle.lot_curves.specs.Stretches.{stretches_of}
-use Rattle.lot_curves.specs.Windows.{had_in}
+use Rattle.lot_curves.proofs.Common.{get_or, had_in, length, stretches_of, take, ℕ, ◌*◌, ◌+◌, ◌<◌, ◌^◌, ◌≡◌, ◌≤◌}
 use Rattle.lot_curves.proofs.curves.Curves.fill_row.Given as goal
 
 -- each thread has what it has had of the stretches passed so far

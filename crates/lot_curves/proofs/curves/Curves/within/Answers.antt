@@ -1,7 +1,4 @@
-use Rattle.std.proofs.Common.{rules, ◌≡◌, min, unwrap_or, ap, sym, ◌∙◌}
-use Rattle.lot_curves.specs.Curves.{Curves}
-use Rattle.lot_curves.specs.Intervals.{curves_between, curves_within}
-use Rattle.lot_curves.specs.Stretches.{last_end}
+use Rattle.lot_curves.proofs.Common.{Curves, ap, curves_between, curves_within, last_end, min, rules, sym, unwrap_or, ◌∙◌, ◌≡◌}
 use Rattle.lot_curves.proofs.curves.Curves.within.Goals as goal
 
 pub returns-in-Some : goal.returns-in-Some

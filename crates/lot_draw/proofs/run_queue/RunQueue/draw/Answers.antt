@@ -1,12 +1,4 @@
-use Rattle.std.proofs.Common.{◌≡◌, ◌∙◌, ℕ, Option, IfSome, IsSome, List, [], length, ap, subst, sym}
-use Rattle.std.specs.Prelude.{MatchOption}
-use Rattle.lot_tree.specs.Visits.{CountsReads}
-use Rattle.lot_machine.specs.Value.{thread_value}
-use Rattle.lot_draw.specs.declared.competing.Winner.{Winner}
-use Rattle.lot_draw.specs.Competing.{competitor_at}
-use Rattle.lot_draw.specs.Queued.{Queued, AreWeights}
-use Rattle.lot_draw.proofs.Lotteries.{winner-competes}
-use Rattle.lot_draw.proofs.Weighing.{draws, same-drawn, still-competes}
+use Rattle.lot_draw.proofs.Lemmas.{AreWeights, CountsReads, IfSome, IsSome, List, MatchOption, Option, Queued, Winner, ap, competitor_at, draws, length, same-drawn, still-competes, subst, sym, thread_value, winner-competes, ℕ, [], ◌∙◌, ◌≡◌}
 use Rattle.lot_draw.proofs.run_queue.RunQueue.draw.Goals as goal
 use Rattle.lot_draw.proofs.run_queue.RunQueue.draw.Goals.{After-weigh_changed}
 

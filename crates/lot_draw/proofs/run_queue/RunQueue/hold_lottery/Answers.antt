@@ -1,5 +1,4 @@
-use Rattle.std.proofs.Common.{◌<◌, arith, length}
-use Rattle.lot_draw.proofs.Lotteries.{drawn-is}
+use Rattle.lot_draw.proofs.Lemmas.{arith, drawn-is, length, ◌<◌}
 use Rattle.lot_draw.proofs.run_queue.RunQueue.hold_lottery.Goals as goal
 
 pub returns-clause-winner : goal.returns-clause-winner

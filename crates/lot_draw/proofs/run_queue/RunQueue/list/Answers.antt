@@ -1,7 +1,4 @@
-use Rattle.lot_lists.specs.NodeLists.{nodes_of, IsFree}
-use Rattle.lot_value.proofs.Listed.{pushed-is}
-use Rattle.lot_value.proofs.Spreading.{found-free}
-use Rattle.lot_draw.proofs.Weighing.{pushed-contains}
+use Rattle.lot_draw.proofs.Lemmas.{IsFree, found-free, nodes_of, pushed-contains, pushed-is}
 use Rattle.lot_draw.proofs.run_queue.RunQueue.list.Goals as goal
 
 pub push_back-requires-clause-free : goal.push_back-requires-clause-free

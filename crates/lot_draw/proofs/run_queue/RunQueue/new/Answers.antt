@@ -1,5 +1,4 @@
-use Rattle.std.proofs.Common.{◌≡◌, None, replicate, rules}
-use Rattle.lot_draw.proofs.Weighing.{weights-none}
+use Rattle.lot_draw.proofs.Lemmas.{None, replicate, rules, weights-none, ◌≡◌}
 use Rattle.lot_draw.proofs.run_queue.RunQueue.new.Goals as goal
 
 pub returns-clause-weights : goal.returns-clause-weights

@@ -1,8 +1,4 @@
-use Rattle.std.proofs.Common.{◌≡◌, rules, subst, sym}
-use Rattle.lot_machine.specs.Numbered.{set_number}
-use Rattle.lot_lists.specs.NodeLists.{nodes_of}
-use Rattle.lot_draw.specs.Queued.{Queued, AreWeights}
-use Rattle.lot_draw.proofs.Weighing.{weights-set}
+use Rattle.lot_draw.proofs.Lemmas.{AreWeights, Queued, nodes_of, rules, set_number, subst, sym, weights-set, ◌≡◌}
 use Rattle.lot_draw.proofs.run_queue.RunQueue.set_competitor.Goals as goal
 
 pub returns-clause-listed : goal.returns-clause-listed

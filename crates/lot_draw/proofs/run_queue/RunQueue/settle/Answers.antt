@@ -1,17 +1,4 @@
-use Rattle.std.proofs.Common.{◌≡◌, ◌+◌, ◌∙◌, ◌⊎◌, ℕ, inl, inr, Some, true, ap, length, refl, subst, sym}
-use Rattle.lot_machine.specs.declared.funding.Node.{Node}
-use Rattle.lot_machine.specs.declared.funding.Node.TheVariants.{Thread}
-use Rattle.lot_machine.specs.Funding.{edge_count_into}
-use Rattle.lot_graph.specs.declared.layout.Layout.{Layout}
-use Rattle.lot_graph.specs.Graphs.{LimitedFunding}
-use Rattle.lot_graph.specs.Places.{IsNodeWithin, layout_of}
-use Rattle.lot_value.specs.Counts.{counted_up}
-use Rattle.lot_value.specs.Caches.{Known, IsStale, IsOnce}
-use Rattle.lot_value.specs.Valued.{Valued}
-use Rattle.lot_value.proofs.Nodes.{node-within}
-use Rattle.lot_value.proofs.Settled.{settle-more}
-use Rattle.lot_draw.specs.Queued.{Queued, AreWeights}
-use Rattle.lot_draw.proofs.Weighing.{weights-settled}
+use Rattle.lot_draw.proofs.Lemmas.{AreWeights, IsNodeWithin, IsOnce, IsStale, Known, Layout, LimitedFunding, Node, Queued, Some, Thread, Valued, ap, counted_up, edge_count_into, inl, inr, layout_of, length, node-within, refl, settle-more, subst, sym, true, weights-settled, ℕ, ◌+◌, ◌∙◌, ◌≡◌, ◌⊎◌}
 use Rattle.lot_draw.proofs.run_queue.RunQueue.settle.Goals as goal
 
 -- what is listed after one step was listed or stale at first

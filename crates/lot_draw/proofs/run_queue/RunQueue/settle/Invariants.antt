@@ -1,9 +1,4 @@
-use Rattle.std.proofs.Common.{◌≡◌, ◌+◌, ◌⊎◌, ℕ, Contains, length}
-use Rattle.lot_machine.specs.declared.funding.Node.{Node}
-use Rattle.lot_machine.specs.declared.funding.Node.TheVariants.{Thread}
-use Rattle.lot_value.specs.Counts.{counted_up}
-use Rattle.lot_value.specs.Caches.{IsStale, IsOnce, edges_into_all}
-use Rattle.lot_draw.specs.Queued.{AreWeights}
+use Rattle.lot_draw.proofs.Common.{AreWeights, Contains, IsOnce, IsStale, Node, Thread, counted_up, edges_into_all, length, ℕ, ◌+◌, ◌≡◌, ◌⊎◌}
 use Rattle.lot_draw.proofs.run_queue.RunQueue.settle.Given as goal
 
 -- what was counted, and with the edges into the nodes that are stale yet it is all of them

@@ -1,12 +1,4 @@
-use Rattle.std.proofs.Common.{◌≡◌, ◌<◌, ◌^◌, ◌∙◌, ◌+◌, Some, ap, arith, length, length-set, set, slice_get, subst, sym}
-use Rattle.std.proofs.lemmas.List.Elements.{All-set}
-use Rattle.lot_lists.specs.NodeLists.{nodes_of}
-use Rattle.lot_machine.specs.declared.funding.Node.TheVariants.{Thread}
-use Rattle.lot_machine.proofs.EachOnce.{contains-at}
-use Rattle.lot_value.specs.Caches.{value_in}
-use Rattle.lot_draw.specs.Competing.{weight_with}
-use Rattle.lot_draw.specs.Queued.{Queued, CompetesIn}
-use Rattle.lot_draw.proofs.Weighing.{sum-light, there-at, competitor-place}
+use Rattle.lot_draw.proofs.Lemmas.{All-set, CompetesIn, Queued, Some, Thread, ap, arith, competitor-place, contains-at, length, length-set, nodes_of, set, slice_get, subst, sum-light, sym, there-at, value_in, weight_with, ◌+◌, ◌<◌, ◌^◌, ◌∙◌, ◌≡◌}
 use Rattle.lot_draw.proofs.run_queue.RunQueue.weigh.Goals as goal
 
 pub weight_at-weight-requires-clause-there : goal.weight_at-weight-requires-clause-there

@@ -1,10 +1,4 @@
-use Rattle.std.proofs.Common.{◌≡◌, ◌∙◌, ◌+◌, ℕ, List, ap, set, subst, sym}
-use Rattle.std.specs.List.{remove}
-use Rattle.lot_machine.specs.declared.funding.Node.TheVariants.{Thread}
-use Rattle.lot_value.specs.Caches.{value_in}
-use Rattle.lot_draw.specs.Competing.{weight_among}
-use Rattle.lot_draw.specs.Queued.{Queued, AreWeights}
-use Rattle.lot_draw.proofs.Weighing.{first-none, weights-weighed}
+use Rattle.lot_draw.proofs.Lemmas.{AreWeights, List, Queued, Thread, ap, first-none, remove, set, subst, sym, value_in, weight_among, weights-weighed, ℕ, ◌+◌, ◌∙◌, ◌≡◌}
 use Rattle.lot_draw.proofs.run_queue.RunQueue.weigh_changed.Goals as goal
 
 pub loop-place-preserved : goal.loop-place-preserved

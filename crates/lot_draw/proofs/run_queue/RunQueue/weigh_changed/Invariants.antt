@@ -1,5 +1,4 @@
-use Rattle.std.proofs.Common.{◌≡◌, length}
-use Rattle.lot_draw.specs.Queued.{AreWeights}
+use Rattle.lot_draw.proofs.Common.{AreWeights, length, ◌≡◌}
 use Rattle.lot_draw.proofs.run_queue.RunQueue.weigh_changed.Given as goal
 
 abbrev pub invariant-loop-place : goal.invariant-loop-place

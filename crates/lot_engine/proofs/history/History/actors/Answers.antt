@@ -1,5 +1,4 @@
-use Rattle.lot_engine.proofs.Common.{KeptHistory, map, min, subst, sym, ◌+◌, ◌∙◌, ◌≡◌}
-use Rattle.lot_engine.proofs.HistoryFacts.{bytes_are}
+use Rattle.lot_engine.proofs.Lemmas.{KeptHistory, bytes_are, map, min, subst, sym, ◌+◌, ◌∙◌, ◌≡◌}
 use Rattle.lot_engine.proofs.history.History.actors.Goals as goal
 
 pub returns : goal.returns

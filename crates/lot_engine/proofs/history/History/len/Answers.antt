@@ -1,5 +1,4 @@
-use Rattle.lot_engine.proofs.Common.{KeptHistory, ap, arith, length}
-use Rattle.lot_engine.proofs.HistoryFacts.{as_many}
+use Rattle.lot_engine.proofs.Lemmas.{KeptHistory, ap, arith, as_many, length}
 use Rattle.lot_engine.proofs.history.History.len.Goals as goal
 
 pub returns : goal.returns

@@ -1,5 +1,4 @@
-use Rattle.lot_engine.proofs.Common.{KeptHistory, actors_from, ap, arith, [], ◌++◌, ◌∙◌, ◌∷◌}
-use Rattle.lot_engine.proofs.HistoryFacts.{as_many, own-more}
+use Rattle.lot_engine.proofs.Lemmas.{KeptHistory, actors_from, ap, arith, as_many, own-more, [], ◌++◌, ◌∙◌, ◌∷◌}
 use Rattle.lot_engine.proofs.history.History.push.Goals as goal
 
 pub push-requires : goal.push-requires

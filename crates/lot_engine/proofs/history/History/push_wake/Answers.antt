@@ -1,5 +1,4 @@
-use Rattle.lot_engine.proofs.Common.{KeptHistory, actors_from, ap, ap₂, arith, count_by-le-length, nat_lt, [], ◌++◌, ◌+◌, ◌∙◌, ◌∷◌}
-use Rattle.lot_engine.proofs.HistoryFacts.{as_many, wake-more}
+use Rattle.lot_engine.proofs.Lemmas.{KeptHistory, actors_from, ap, ap₂, arith, as_many, count_by-le-length, nat_lt, wake-more, [], ◌++◌, ◌+◌, ◌∙◌, ◌∷◌}
 use Rattle.lot_engine.proofs.history.History.push_wake.Goals as goal
 
 pub push-requires : goal.push-requires

@@ -1,5 +1,4 @@
-use Rattle.lot_engine.proofs.Common.{KeptHistory, subst, sym, woken_in, ◌∙◌, ◌≡◌}
-use Rattle.lot_engine.proofs.HistoryFacts.{threads_are}
+use Rattle.lot_engine.proofs.Lemmas.{KeptHistory, subst, sym, threads_are, woken_in, ◌∙◌, ◌≡◌}
 use Rattle.lot_engine.proofs.history.History.woken.Goals as goal
 
 pub returns : goal.returns

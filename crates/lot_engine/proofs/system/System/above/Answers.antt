@@ -1,5 +1,4 @@
-use Rattle.lot_engine.proofs.Common.{HasLayoutFor, HasLayoutOf, IfOk-weaker}
-use Rattle.lot_engine.proofs.Layouts.{layout-for}
+use Rattle.lot_engine.proofs.Lemmas.{HasLayoutFor, HasLayoutOf, IfOk-weaker, layout-for}
 use Rattle.lot_engine.proofs.system.System.above.Goals as goal
 
 pub returns : goal.returns

@@ -1,9 +1,6 @@
 -- The command is the next one, and what is held then is what the world comes to.
-use Rattle.lot_engine.proofs.Common.{Answered, IsInOrder, Seen, ap, arith, length, next_name, refl, resolved, subst, sym, system_run, system_turn, tickets_after, turns_made, world_of, ◌∙◌, ◌≡◌}
+use Rattle.lot_engine.proofs.Lemmas.{Answered, IsInOrder, Seen, ap, arith, command-answer, command-held, command-left, command-made, command-next, console-more, kept-made, length, next_name, refl, resolved, run-in-order, subst, sym, system_run, system_turn, tickets_after, turns_made, world_of, ◌∙◌, ◌≡◌}
 use Rattle.lot_machine.specs.declared.event.Event.TheVariants as event
-use Rattle.lot_engine.proofs.InOrder.{run-in-order}
-use Rattle.lot_engine.proofs.OneMore.{console-more}
-use Rattle.lot_engine.proofs.TurnFacts.{command-left, command-next, command-made, command-answer, command-held, kept-made}
 use Rattle.lot_engine.proofs.system.System.console_turn.Goals as goal
 
 pub follow_command-requires-clause-made : goal.follow_command-requires-clause-made

@@ -1,5 +1,4 @@
-use Rattle.lot_engine.proofs.Common.{IsInOrder, Seen, State, arith, base_value, currency-bounded, funding_of, live_of, order-sound, subst, sym, world_of, worth_of, ◌≡◌, ◌≤◌}
-use Rattle.lot_engine.proofs.InOrder.{run-in-order}
+use Rattle.lot_engine.proofs.Lemmas.{IsInOrder, Seen, State, arith, base_value, currency-bounded, funding_of, live_of, order-sound, run-in-order, subst, sym, world_of, worth_of, ◌≡◌, ◌≤◌}
 use Rattle.lot_engine.proofs.system.System.currency_value.Goals as goal
 
 pub returns-clause-value : goal.returns-clause-value

@@ -1,7 +1,4 @@
-use Rattle.lot_engine.proofs.Common.{HasLayoutFor, HasThoseAbove, IsBetween, IsInOrder, Seen, State, length, subst, sym, world_of}
-use Rattle.lot_engine.proofs.Below.{above-those}
-use Rattle.lot_engine.proofs.InOrder.{run-in-order}
-use Rattle.lot_engine.proofs.Layouts.{layout-of}
+use Rattle.lot_engine.proofs.Lemmas.{HasLayoutFor, HasThoseAbove, IsBetween, IsInOrder, Seen, State, above-those, layout-of, length, run-in-order, subst, sym, world_of}
 use Rattle.lot_engine.proofs.system.System.find_above.Goals as goal
 
 pub find_above-requires-clause-layout : goal.find_above-requires-clause-layout

@@ -1,6 +1,5 @@
 -- Without a timer the actors are the console and processors, so they are printed as they are.
-use Rattle.lot_engine.proofs.Common.{Seen, ap, map, min, shown_history, ◌+◌, ◌∙◌}
-use Rattle.lot_engine.proofs.HistoryFacts.{shown-own}
+use Rattle.lot_engine.proofs.Lemmas.{Seen, ap, map, min, shown-own, shown_history, ◌+◌, ◌∙◌}
 use Rattle.lot_engine.proofs.system.System.history.Goals as goal
 
 pub returns-clause-shown : goal.returns-clause-shown

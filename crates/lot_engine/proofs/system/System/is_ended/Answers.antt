@@ -1,5 +1,4 @@
-use Rattle.lot_engine.proofs.Common.{le-leb, leb-true, system_run}
-use Rattle.lot_engine.proofs.TurnFacts.{commands-ended}
+use Rattle.lot_engine.proofs.Lemmas.{commands-ended, le-leb, leb-true, system_run}
 use Rattle.lot_engine.proofs.system.System.is_ended.Goals as goal
 
 pub returns-then-actor-eq0 : goal.returns-then-actor-eq0

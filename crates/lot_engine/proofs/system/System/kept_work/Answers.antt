@@ -1,7 +1,5 @@
 -- The thread on a processor is one of those whose places are kept, and it wasn't removed.
-use Rattle.lot_engine.proofs.Common.{IsScript, ap, arith, is_some, refl, script_lines, subst, sym, system_run, ◌-◌, ◌∙◌, ◌≡◌, ◌≤◌}
-use Rattle.lot_engine.proofs.PlaceFacts.{at-lengths}
-use Rattle.lot_engine.proofs.TurnFacts.{runner-scripted, script-there, work-is}
+use Rattle.lot_engine.proofs.Lemmas.{IsScript, ap, arith, at-lengths, is_some, refl, runner-scripted, script-there, script_lines, subst, sym, system_run, work-is, ◌-◌, ◌∙◌, ◌≡◌, ◌≤◌}
 use Rattle.lot_engine.proofs.system.System.kept_work.Goals as goal
 
 pub index-requires : goal.index-requires

@@ -1,7 +1,5 @@
 -- Who waits isn't dead, so it wasn't removed.
-use Rattle.lot_engine.proofs.Common.{All, HasRow, IsInOrder, State, subst, sym}
-use Rattle.lot_engine.proofs.InOrder.{run-in-order}
-use Rattle.lot_engine.proofs.RowFacts.{waiters-rows}
+use Rattle.lot_engine.proofs.Lemmas.{All, HasRow, IsInOrder, State, run-in-order, subst, sym, waiters-rows}
 use Rattle.lot_engine.proofs.system.System.list_waiters.Goals as goal
 
 pub returns-clause-shown : goal.returns-clause-shown

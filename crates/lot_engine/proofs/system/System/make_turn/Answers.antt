@@ -1,8 +1,5 @@
 -- The event is the one of the slice of the work, and what is held then is what the world comes to.
-use Rattle.lot_engine.proofs.Common.{Answered, Seen, ap, arith, at_number, if◌then◌else◌, length, number_from, seed_from, set_number, subst, system_run, system_turn, takes_number, turns_made, unwrap_or, world_of, ◌<◌, ◌∙◌, ◌≡◌}
-use Rattle.lot_engine.proofs.OneMore.{processor-more}
-use Rattle.lot_engine.proofs.TurnFacts.{turn-answer, turn-names, turn-held}
-use Rattle.lot_engine.proofs.RunFacts.{given-event}
+use Rattle.lot_engine.proofs.Lemmas.{Answered, Seen, ap, arith, at_number, given-event, if◌then◌else◌, length, number_from, processor-more, seed_from, set_number, subst, system_run, system_turn, takes_number, turn-answer, turn-held, turn-names, turns_made, unwrap_or, world_of, ◌<◌, ◌∙◌, ◌≡◌}
 use Rattle.lot_engine.proofs.system.System.make_turn.Goals as goal
 
 pub follow_turn-requires : goal.follow_turn-requires

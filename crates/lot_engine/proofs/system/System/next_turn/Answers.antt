@@ -1,5 +1,4 @@
-use Rattle.lot_engine.proofs.Common.{IsPlayed, IsWorkOf, None, ap, option_and_then, sleeper_by, slice_on, subst, sym, world_of}
-use Rattle.lot_engine.proofs.PlayingFacts.{played-after}
+use Rattle.lot_engine.proofs.Lemmas.{IsPlayed, IsWorkOf, None, ap, option_and_then, played-after, sleeper_by, slice_on, subst, sym, world_of}
 use Rattle.lot_engine.proofs.system.System.next_turn.Goals as goal
 
 pub returns-in_default-clause-played : goal.returns-in_default-clause-played

@@ -1,5 +1,4 @@
-use Rattle.lot_engine.proofs.Common.{AreCounts, IsCount, ap, is_some, length, opening, replicate, rules, sizes_of, subst, sym, turns_made, [], ◌+◌, ◌∙◌, ◌≡◌, ◌≤◌}
-use Rattle.lot_engine.proofs.Openings.{nothing-counted, opening-held}
+use Rattle.lot_engine.proofs.Lemmas.{AreCounts, IsCount, ap, is_some, length, nothing-counted, opening, opening-held, replicate, rules, sizes_of, subst, sym, turns_made, [], ◌+◌, ◌∙◌, ◌≡◌, ◌≤◌}
 use Rattle.lot_engine.proofs.system.System.open_with.Goals as goal
 
 pub invariant_of-result : goal.invariant_of-result

@@ -1,5 +1,4 @@
-use Rattle.lot_engine.proofs.Common.{Seen, State, ap, arith, length, system_run, world_of, ◌≡◌}
-use Rattle.lot_engine.proofs.PlaceFacts.{at-lengths}
+use Rattle.lot_engine.proofs.Lemmas.{Seen, State, ap, arith, at-lengths, length, system_run, world_of, ◌≡◌}
 use Rattle.lot_engine.proofs.system.System.thread_count.Goals as goal
 
 pub overflow_cast-result : goal.overflow_cast-result

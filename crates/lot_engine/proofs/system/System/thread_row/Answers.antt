@@ -1,7 +1,5 @@
 -- Where there is no row, the thread was never made, or it was removed.
-use Rattle.lot_engine.proofs.Common.{IsInOrder, State, false, is_live, live_of, subst, sym, ◌∙◌, ◌≡◌}
-use Rattle.lot_engine.proofs.GoneFacts.{gone-idle}
-use Rattle.lot_engine.proofs.InOrder.{run-in-order}
+use Rattle.lot_engine.proofs.Lemmas.{IsInOrder, State, false, gone-idle, is_live, live_of, run-in-order, subst, sym, ◌∙◌, ◌≡◌}
 use Rattle.lot_engine.proofs.system.System.thread_row.Goals as goal
 
 pub returns-clause-gone : goal.returns-clause-gone

@@ -1,6 +1,5 @@
 -- What isn't the slice of the work isn't the slice of any work of the actor: there is one.
-use Rattle.lot_engine.proofs.Common.{IsFresh, Matches, Seen, refl, subst, sym, true, ◌≡◌}
-use Rattle.lot_engine.proofs.WorkFacts.{fresh-matches}
+use Rattle.lot_engine.proofs.Lemmas.{IsFresh, Matches, Seen, fresh-matches, refl, subst, sym, true, ◌≡◌}
 use Rattle.lot_engine.proofs.system.System.try_turn.Goals as goal
 
 pub returns-then-not-matches_work-clause-err : goal.returns-then-not-matches_work-clause-err

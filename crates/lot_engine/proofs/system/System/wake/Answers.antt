@@ -1,9 +1,6 @@
 -- The timer's turn leaves the threads' places and the counters of the others.
-use Rattle.lot_engine.proofs.Common.{Answered, IsPlayed, List, Seen, State, after_turn, ap, arith, length, step, subst, sym, system_run, timer_for, turn_in, ℕ, [], ◌++◌, ◌+◌, ◌∙◌, ◌∷◌, ◌≡◌}
+use Rattle.lot_engine.proofs.Lemmas.{Answered, IsPlayed, List, Seen, State, after_turn, ap, arith, length, played-after, step, subst, sym, system_run, timer-more, timer_for, turn_in, wake-answer, ℕ, [], ◌++◌, ◌+◌, ◌∙◌, ◌∷◌, ◌≡◌}
 use Rattle.lot_machine.specs.declared.event.Event.TheVariants as event
-use Rattle.lot_engine.proofs.OneMore.{timer-more}
-use Rattle.lot_engine.proofs.PlayingFacts.{played-after}
-use Rattle.lot_engine.proofs.WakeFacts.{wake-answer}
 use Rattle.lot_engine.proofs.system.System.wake.Goals as goal
 
 pub invariant_of-self : goal.invariant_of-self

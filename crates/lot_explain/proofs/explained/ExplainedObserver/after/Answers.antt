@@ -1,5 +1,5 @@
-use Rattle.lot_explain.proofs.Common.{Begins, IsExplained, IsPut, explained_made, put-err, put-ok, subst, texts-more, texts-stop, ◌++◌, ◌∙◌}
-use Rattle.lot_explain.proofs.TurnFacts.{just-explained}
+use Rattle.lot_explain.proofs.Lemmas.{Begins, IsExplained, IsPut, explained_made, just-explained, put-err, put-ok, subst, ◌++◌, ◌∙◌}
+use Rattle.lot_system.proofs.LineFacts.{texts-more, texts-stop}
 use Rattle.lot_explain.proofs.explained.ExplainedObserver.after.Goals as goal
 
 pub put_explained-requires-clause-made : goal.put_explained-requires-clause-made

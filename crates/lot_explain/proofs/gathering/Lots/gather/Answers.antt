@@ -3,7 +3,7 @@ use Rattle.lot_explain.proofs.gathering.Lots.gather.Goals as goal
 
 pub push_waiters-requires-clause-there : goal.push_waiters-requires-clause-there
 push_waiters-requires-clause-there c =
-    subst (All (HasRow (world_of c.args.system.now).state)) (sym c.deref.ensures.value) c.list_waiters.ensures.shown
+    rw c.settle.ensures.state (subst (All (HasRow (world_of c.args.system.now).state)) (sym c.deref.ensures.value) c.list_waiters.ensures.shown)
 
 pub returns-in-Nobody-clause-lots : goal.returns-in-Nobody-clause-lots
 returns-in-Nobody-clause-lots c event reply is =
@@ -16,7 +16,7 @@ returns-in-Ready-clause-lots c event reply is =
 pub returns-in-Waiters-clause-lots : goal.returns-in-Waiters-clause-lots
 returns-in-Waiters-clause-lots c event reply is =
     let s = (world_of c.args.system.now).state in
-    c.push_waiters.ensures.lots ∙ ap (map (waiter_lot s)) (c.deref.ensures.value ∙ c.list_waiters.ensures.waiters)
+    (rw c.settle.ensures.state at c.push_waiters.ensures.lots) ∙ ap (map (waiter_lot s)) (c.deref.ensures.value ∙ c.list_waiters.ensures.waiters)
     ∙ ap (lots_among s) (sym c.in-Waiters.is ∙ c.next_entrants.ensures event reply is)
 
 pub returns-in-Nobody-clause-loans : goal.returns-in-Nobody-clause-loans

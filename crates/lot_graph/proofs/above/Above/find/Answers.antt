@@ -1,5 +1,4 @@
-use Rattle.lot_graph.proofs.Common.{Finds, FoundNodes, IsAbove, IsBack, IsFoundList, IsNodeWithin, ap, found_nodes, layout_of, subst, sym, ◌∙◌}
-use Rattle.lot_graph.proofs.AboveLemmas.{finds-above, limits-within}
+use Rattle.lot_graph.proofs.Lemmas.{Finds, FoundNodes, IsAbove, IsBack, IsFoundList, IsNodeWithin, ap, finds-above, found_nodes, layout_of, limits-within, subst, sym, ◌∙◌}
 use Rattle.lot_graph.proofs.above.Above.find.Goals as goal
 
 pub find-requires-clause-ahead : goal.find-requires-clause-ahead

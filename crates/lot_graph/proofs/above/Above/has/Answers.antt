@@ -1,5 +1,4 @@
-use Rattle.lot_graph.proofs.Common.{Currency, FoundNodes, HasFound, subst, sym, ◌∙◌, ◌≤◌}
-use Rattle.lot_graph.proofs.AboveLemmas.{found-test}
+use Rattle.lot_graph.proofs.Lemmas.{Currency, FoundNodes, HasFound, found-test, subst, sym, ◌∙◌, ◌≤◌}
 use Rattle.lot_graph.proofs.above.Above.has.Goals as goal
 
 pub returns : goal.returns

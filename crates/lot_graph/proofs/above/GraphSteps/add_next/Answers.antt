@@ -1,6 +1,4 @@
-use Rattle.lot_graph.proofs.Common.{Edge, HasEachOnce, IfSome, IsNodeWithin, LeadsInto, List, contains-nothing, layout_of, subst, sym, tail_of, [], ◌++◌, ◌∙◌}
-use Rattle.lot_graph.proofs.AboveLemmas.{into-within, next-contained, tail-within, tails-all, walk-end, walk-more, within-limits}
-use Rattle.lot_graph.proofs.SpreadLemmas.{IsOfSome, some-more, spread-none}
+use Rattle.lot_graph.proofs.Lemmas.{Edge, HasEachOnce, IfSome, IsNodeWithin, IsOfSome, LeadsInto, List, contains-nothing, into-within, layout_of, next-contained, some-more, spread-none, subst, sym, tail-within, tail_of, tails-all, walk-end, walk-more, within-limits, [], ◌++◌, ◌∙◌}
 use Rattle.lot_graph.proofs.above.GraphSteps.add_next.Goals as goal
 
 pub edges_into-edge-items-requires : goal.edges_into-edge-items-requires

@@ -1,5 +1,4 @@
-use Rattle.lot_graph.proofs.Common.{HasEachOnce, IsFoundList, LeadsInto, Spreads, tail_of, ◌++◌}
-use Rattle.lot_graph.proofs.SpreadLemmas.{IsOfSome}
+use Rattle.lot_graph.proofs.Lemmas.{HasEachOnce, IsFoundList, IsOfSome, LeadsInto, Spreads, tail_of, ◌++◌}
 use Rattle.lot_graph.proofs.above.GraphSteps.add_next.Given as goal
 
 -- the edges into the node are those that were yielded and those that are left, and the tails of the former were added

@@ -1,6 +1,4 @@
-use Rattle.lot_graph.proofs.Common.{Currency, FitsLimits, HasEachOnce, LeadsOutOf, LimitedFunding, Node, ap, append-nil, funding_edges, length, own_edges, subst, sym, ◌<◌, ◌^◌, ◌∙◌}
-use Rattle.lot_graph.proofs.WalkLemmas.{out-once, out-short, own-once, own-short}
-use Rattle.lot_graph.proofs.LimitLemmas.{graph-fits}
+use Rattle.lot_graph.proofs.Lemmas.{Currency, FitsLimits, HasEachOnce, LeadsOutOf, LimitedFunding, Node, ap, append-nil, funding_edges, graph-fits, length, out-once, out-short, own-once, own-short, own_edges, subst, sym, ◌<◌, ◌^◌, ◌∙◌}
 use Rattle.lot_graph.proofs.graph.Graph.edges_out_of.Goals as goal
 
 pub returns-in-Currency-clause-edges : goal.returns-in-Currency-clause-edges

@@ -1,8 +1,5 @@
-use Rattle.lot_graph.proofs.Common.{Funding, IsCycle, IsFree, IsSome, IsTarget, LimitedFunding, OfTicket, Some, Target, Unfunded, ap, ap₂, is_some, length, refl, subst, sym, target_node, target_of, ticket_in, with_pushed, with_target, with_tickets, ◌<◌, ◌∙◌, ◌≡◌}
+use Rattle.lot_graph.proofs.Lemmas.{Funding, IsCycle, IsFree, IsSome, IsTarget, LimitedFunding, OfTicket, Some, Target, Unfunded, ap, ap₂, fund-kept, graph-fits, is_some, length, place-low, refl, subst, sym, target-low, target-ticket, target_node, target_of, ticket_in, unfunded-free, unfunded-within, with_pushed, with_target, with_tickets, ◌<◌, ◌∙◌, ◌≡◌}
 use Rattle.lot_machine.specs.declared.ticket.Target.TheVariants.{Currency, Thread}
-use Rattle.lot_graph.proofs.FieldLemmas.{unfunded-within, unfunded-free, place-low, target-ticket}
-use Rattle.lot_graph.proofs.CycleLemmas.{target-low, fund-kept}
-use Rattle.lot_graph.proofs.LimitLemmas.{graph-fits}
 use Rattle.lot_graph.proofs.graph.Graph.give.Goals as goal
 
 -- an existing target is a node

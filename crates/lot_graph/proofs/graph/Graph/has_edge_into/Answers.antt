@@ -1,5 +1,4 @@
-use Rattle.std.proofs.Common.{◌∙◌}
-use Rattle.lot_graph.proofs.WalkLemmas.{first-into}
+use Rattle.lot_graph.proofs.Lemmas.{first-into, ◌∙◌}
 use Rattle.lot_graph.proofs.graph.Graph.has_edge_into.Goals as goal
 
 pub returns : goal.returns

@@ -1,6 +1,4 @@
-use Rattle.lot_graph.proofs.Common.{Currency, IsCurrency, LimitedFunding, None, Some, Ticket, Unfunded, ap, arith, at_number, number-within, set_number, subst, sym, with_pushed, with_tickets, ◌∙◌, ◌≡◌, ◌≤◌}
-use Rattle.lot_graph.proofs.FieldLemmas.{again-free, again-held, node-within}
-use Rattle.lot_graph.proofs.LimitLemmas.{graph-fits}
+use Rattle.lot_graph.proofs.Lemmas.{Currency, IsCurrency, LimitedFunding, None, Some, Ticket, Unfunded, again-free, again-held, ap, arith, at_number, graph-fits, node-within, number-within, set_number, subst, sym, with_pushed, with_tickets, ◌∙◌, ◌≡◌, ◌≤◌}
 use Rattle.lot_graph.proofs.graph.Graph.issue_again.Goals as goal
 
 pub push_back-requires-clause-free : goal.push_back-requires-clause-free

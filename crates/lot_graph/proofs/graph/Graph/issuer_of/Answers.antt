@@ -1,5 +1,4 @@
-use Rattle.lot_graph.proofs.Common.{Contains, Fields, IfNone, IfSome, IsFree, IsGraph, LimitedFunding, Option, ap, arith, funding_in, issuer_of, nodes_of, subst, sym, ℕ, ◌+◌, ◌∙◌, ◌≡◌}
-use Rattle.lot_graph.proofs.MirrorLemmas.{mirror-found}
+use Rattle.lot_graph.proofs.Lemmas.{Contains, Fields, IfNone, IfSome, IsFree, IsGraph, LimitedFunding, Option, ap, arith, funding_in, issuer_of, mirror-found, nodes_of, subst, sym, ℕ, ◌+◌, ◌∙◌, ◌≡◌}
 use Rattle.lot_graph.proofs.graph.Graph.issuer_of.Goals as goal
 use Rattle.lot_graph.proofs.graph.Graph.issuer_of.Goals.{After-list_of}
 

@@ -1,6 +1,4 @@
-use Rattle.lot_graph.proofs.Common.{LimitedFunding, Some, ap, arith, false, refl, slice_get, slice_get_within, slice_set, subst, sym, true, with_currencies, ◌≡◌}
-use Rattle.lot_graph.proofs.FieldLemmas.{again_currency-held}
-use Rattle.lot_graph.proofs.LimitLemmas.{graph-fits}
+use Rattle.lot_graph.proofs.Lemmas.{LimitedFunding, Some, again_currency-held, ap, arith, false, graph-fits, refl, slice_get, slice_get_within, slice_set, subst, sym, true, with_currencies, ◌≡◌}
 use Rattle.lot_graph.proofs.graph.Graph.make_currency_again.Goals as goal
 
 pub invariant_of-self : goal.invariant_of-self

@@ -1,6 +1,4 @@
-use Rattle.lot_graph.proofs.Common.{LimitedFunding, Some, Unfunded, arith, subst, sym, target_of, ◌≡◌}
-use Rattle.lot_graph.proofs.FieldLemmas.{set_amount-held}
-use Rattle.lot_graph.proofs.LimitLemmas.{graph-fits}
+use Rattle.lot_graph.proofs.Lemmas.{LimitedFunding, Some, Unfunded, arith, graph-fits, set_amount-held, subst, sym, target_of, ◌≡◌}
 use Rattle.lot_graph.proofs.graph.Graph.set_amount.Goals as goal
 
 pub invariant_of-self : goal.invariant_of-self

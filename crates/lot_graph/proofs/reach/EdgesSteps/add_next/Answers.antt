@@ -1,5 +1,4 @@
-use Rattle.lot_graph.proofs.Common.{IsEdge, IsNext, OfLender, OfMutex, Spreads, funding_of, subst, sym}
-use Rattle.lot_graph.proofs.SpreadLemmas.{head-within, thread-spread, mutex-spread}
+use Rattle.lot_graph.proofs.Lemmas.{IsEdge, IsNext, OfLender, OfMutex, Spreads, funding_of, head-within, mutex-spread, subst, sym, thread-spread}
 use Rattle.lot_graph.proofs.reach.EdgesSteps.add_next.Goals as goal
 
 pub add_node-requires-clause-within : goal.add_node-requires-clause-within

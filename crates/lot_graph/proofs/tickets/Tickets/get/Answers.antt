@@ -1,5 +1,4 @@
-use Rattle.lot_graph.proofs.Common.{TicketTable, ap, arith, option_copied, option_flatten, sym, ticket_in, ℕ, ◌%◌, ◌+◌, ◌∙◌}
-use Rattle.lot_graph.proofs.TicketLemmas.{ticket-found}
+use Rattle.lot_graph.proofs.Lemmas.{TicketTable, ap, arith, option_copied, option_flatten, sym, ticket-found, ticket_in, ℕ, ◌%◌, ◌+◌, ◌∙◌}
 use Rattle.lot_graph.proofs.tickets.Tickets.get.Goals as goal
 
 pub returns : goal.returns

@@ -1,5 +1,4 @@
-use Rattle.lot_graph.proofs.Common.{None, Some, TicketTable, ap, arith, at_number, set_number, subst, sym, ◌-◌, ◌∙◌, ◌≡◌}
-use Rattle.lot_graph.proofs.TicketLemmas.{slots-set, gap-made, filled-after}
+use Rattle.lot_graph.proofs.Lemmas.{None, Some, TicketTable, ap, arith, at_number, filled-after, gap-made, set_number, slots-set, subst, sym, ◌-◌, ◌∙◌, ◌≡◌}
 use Rattle.lot_graph.proofs.tickets.Tickets.put.Goals as goal
 
 pub invariant_of-self : goal.invariant_of-self

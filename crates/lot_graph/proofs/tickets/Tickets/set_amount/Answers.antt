@@ -1,5 +1,4 @@
-use Rattle.lot_graph.proofs.Common.{IsSome, Option, Ticket, TicketTable, ap, arith, map, option_flatten, option_map, reissued, slice_set, subst, sym, take, ticket_in, with_amount, ◌-◌, ◌∙◌}
-use Rattle.lot_graph.proofs.TicketLemmas.{slots-set, there-made, ticket-seen, filled-after}
+use Rattle.lot_graph.proofs.Lemmas.{IsSome, Option, Ticket, TicketTable, ap, arith, filled-after, map, option_flatten, option_map, reissued, slice_set, slots-set, subst, sym, take, there-made, ticket-seen, ticket_in, with_amount, ◌-◌, ◌∙◌}
 use Rattle.lot_graph.proofs.tickets.Tickets.set_amount.Goals as goal
 
 pub returns : goal.returns

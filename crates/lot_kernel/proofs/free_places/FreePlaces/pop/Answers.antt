@@ -1,5 +1,4 @@
-use Rattle.lot_kernel.proofs.Common.{FreeStack, IfNone, Option, ap, ap₂, drop, length, slice_get, subst, ℕ, [], ◌∙◌, ◌≡◌}
-use Rattle.lot_kernel.proofs.Stacks.{popped, popped-none}
+use Rattle.lot_kernel.proofs.Lemmas.{FreeStack, IfNone, Option, ap, ap₂, drop, length, popped, popped-none, slice_get, subst, ℕ, [], ◌∙◌, ◌≡◌}
 use Rattle.lot_kernel.proofs.free_places.FreePlaces.pop.Goals as goal
 
 pub returns-clause-first : goal.returns-clause-first

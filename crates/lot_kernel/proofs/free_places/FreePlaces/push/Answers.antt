@@ -1,5 +1,4 @@
-use Rattle.lot_kernel.proofs.Common.{FreeStack, ap, ap₂, arith, length, length-reverse, reverse, ◌∙◌, ◌∷◌}
-use Rattle.lot_kernel.proofs.Stacks.{pushed-first}
+use Rattle.lot_kernel.proofs.Lemmas.{FreeStack, ap, ap₂, arith, length, length-reverse, pushed-first, reverse, ◌∙◌, ◌∷◌}
 use Rattle.lot_kernel.proofs.free_places.FreePlaces.push.Goals as goal
 
 pub push-requires : goal.push-requires

@@ -1,5 +1,4 @@
-use Rattle.lot_kernel.proofs.Common.{Threaded, active_amount, ap, funding_in, live_in, ◌*◌, ◌∙◌}
-use Rattle.lot_kernel.proofs.Shown.{tables-shown}
+use Rattle.lot_kernel.proofs.Lemmas.{Threaded, active_amount, ap, funding_in, live_in, tables-shown, ◌*◌, ◌∙◌}
 use Rattle.lot_kernel.proofs.kernel.Kernel.base_value.Goals as goal
 
 pub returns-clause-value : goal.returns-clause-value

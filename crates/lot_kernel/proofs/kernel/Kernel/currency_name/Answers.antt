@@ -1,6 +1,4 @@
-use Rattle.lot_kernel.proofs.Common.{None, Snapshot, Some, ap, option_flatten, sym, ◌∙◌}
-use Rattle.lot_kernel.proofs.Looking.{entry-of, entry-missing}
-use Rattle.lot_kernel.proofs.Shown.{tables-shown}
+use Rattle.lot_kernel.proofs.Lemmas.{None, Snapshot, Some, ap, entry-missing, entry-of, option_flatten, sym, tables-shown, ◌∙◌}
 use Rattle.lot_kernel.proofs.kernel.Kernel.currency_name.Goals as goal
 
 pub returns-in-Some : goal.returns-in-Some

@@ -1,6 +1,5 @@
-use Rattle.lot_kernel.proofs.Common.{Currency, Funding, HasFound, LimitedFunding, Reaches, ap, funding_in, subst, ◌↔◌, ◌∙◌}
+use Rattle.lot_kernel.proofs.Lemmas.{Currency, Funding, HasFound, LimitedFunding, Reaches, ap, funding_in, subst, threads-shown, ◌↔◌, ◌∙◌}
 use Rattle.lot_machine.specs.declared.funding.Node.TheVariants.{Thread}
-use Rattle.lot_kernel.proofs.Shown.{threads-shown}
 use Rattle.lot_kernel.proofs.kernel.Kernel.find_above.Goals as goal
 
 pub returns-clause-above : goal.returns-clause-above

@@ -1,5 +1,5 @@
-use Rattle.lot_kernel.proofs.Common.{All, IsBetween, IsInOrder, List, Mutex, None, Option, Snapshot, Some, State, Waiting, ap, arith, at_number, length, mutex_at, number-within, record-of, refl, slice_get-get_or, slice_index_or, subst, sym, unwrap_or, ℕ, [], ◌∙◌, ◌≡◌}
-use Rattle.lot_kernel.proofs.Shown.{tables-shown}
+use Rattle.lot_kernel.proofs.Lemmas.{All, IsBetween, IsInOrder, List, Mutex, None, Option, Snapshot, Some, State, Waiting, ap, arith, at_number, length, mutex_at, record-of, refl, slice_get-get_or, slice_index_or, subst, sym, tables-shown, unwrap_or, ℕ, [], ◌∙◌, ◌≡◌}
+use Rattle.lot_machine.proofs.LendSums.{number-within}
 use Rattle.lot_kernel.proofs.kernel.Kernel.list_waiters.Goals as goal
 
 -- who waits for a mutex is a thread

@@ -1,7 +1,5 @@
 use Rattle.lot_machine.specs.declared.record.Thread.{Thread as AThread}
-use Rattle.lot_kernel.proofs.Common.{None, Option, Some, Threaded, ap, option_flatten, option_map, refl, sym, ◌∙◌}
-use Rattle.lot_kernel.proofs.Shown.{threads-shown}
-use Rattle.lot_kernel.proofs.Looking.{entry-of, entry-missing, numbered}
+use Rattle.lot_kernel.proofs.Lemmas.{None, Option, Some, Threaded, ap, entry-missing, entry-of, numbered, option_flatten, option_map, refl, sym, threads-shown, ◌∙◌}
 use Rattle.lot_kernel.proofs.kernel.Kernel.script_of.Goals as goal
 
 pub returns-then-thread-eq0 : goal.returns-then-thread-eq0

@@ -1,5 +1,4 @@
-use Rattle.lot_kernel.proofs.Common.{IsIndexOf, NodeLists, None, Some, ap, bucket_of, length, rules, slice_set, subst, sym, with_pushed, [], ◌++◌, ◌<◌, ◌∙◌, ◌∷◌, ◌≡◌}
-use Rattle.lot_kernel.proofs.Indexed.{index-added, index-again, index-nameless, index-nameless_again}
+use Rattle.lot_kernel.proofs.Lemmas.{IsIndexOf, NodeLists, None, Some, ap, bucket_of, index-added, index-again, index-nameless, index-nameless_again, length, rules, slice_set, subst, sym, with_pushed, [], ◌++◌, ◌<◌, ◌∙◌, ◌∷◌, ◌≡◌}
 use Rattle.lot_kernel.proofs.names.NameIndex.add.Goals as goal
 
 pub push_back-requires-clause-free : goal.push_back-requires-clause-free

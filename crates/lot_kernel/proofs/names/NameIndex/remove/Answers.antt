@@ -1,5 +1,4 @@
-use Rattle.lot_kernel.proofs.Common.{IsIndexOf, NodeLists, None, slice_set, subst, sym, ◌∙◌}
-use Rattle.lot_kernel.proofs.Indexed.{index-removed, index-unlisted, when-none, when-some}
+use Rattle.lot_kernel.proofs.Lemmas.{IsIndexOf, NodeLists, None, index-removed, index-unlisted, slice_set, subst, sym, when-none, when-some, ◌∙◌}
 use Rattle.lot_kernel.proofs.names.NameIndex.remove.Goals as goal
 
 pub returns-then-is_some-clause-removed : goal.returns-then-is_some-clause-removed

@@ -1,6 +1,5 @@
-use Rattle.lot_kernel.proofs.Common.{Contains, List, Node, Threaded, active_amount, ap, contains-nothing, eq-eqb, funding_in, live_in, node_value, subst, ◌∙◌}
+use Rattle.lot_kernel.proofs.Lemmas.{Contains, List, Node, Threaded, active_amount, ap, contains-nothing, eq-eqb, funding_in, live_in, node_value, subst, threads-shown, ◌∙◌}
 use Rattle.lot_machine.specs.declared.funding.Node.TheVariants as node
-use Rattle.lot_kernel.proofs.Shown.{threads-shown}
 use Rattle.lot_kernel.proofs.settled.Settled.currency_value.Goals as goal
 
 pub returns-then-currency-eq0 : goal.returns-then-currency-eq0

@@ -1,6 +1,4 @@
-use Rattle.lot_kernel.proofs.Common.{LimitedFunding, Threaded, active_amount, ap, backing_currency, funding_in, issued_in, length, live_in, ◌∙◌}
-use Rattle.lot_kernel.proofs.SettledRows.{currency-row-of}
-use Rattle.lot_kernel.proofs.Shown.{threads-shown}
+use Rattle.lot_kernel.proofs.Lemmas.{LimitedFunding, Threaded, active_amount, ap, backing_currency, currency-row-of, funding_in, issued_in, length, live_in, threads-shown, ◌∙◌}
 use Rattle.lot_kernel.proofs.settled.Settled.row_of_currency.Goals as goal
 
 pub returns : goal.returns

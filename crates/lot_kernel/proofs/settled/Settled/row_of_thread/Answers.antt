@@ -1,5 +1,4 @@
-use Rattle.lot_kernel.proofs.Common.{Sizes, ap, weight, ◌∙◌}
-use Rattle.lot_kernel.proofs.Rows.{thread-row-of}
+use Rattle.lot_kernel.proofs.Lemmas.{Sizes, ap, thread-row-of, weight, ◌∙◌}
 use Rattle.lot_kernel.proofs.settled.Settled.row_of_thread.Goals as goal
 
 pub returns : goal.returns

@@ -1,7 +1,4 @@
-use Rattle.lot_kernel.proofs.Common.{IsInOrder, Snapshot, currency_name, rules, subst, unwrap_or, [], ◌≡◌}
-use Rattle.lot_kernel.proofs.Rows.{ticket-row-of}
-use Rattle.lot_kernel.proofs.SettledRows.{active-is}
-use Rattle.lot_kernel.proofs.Shown.{threads-shown}
+use Rattle.lot_kernel.proofs.Lemmas.{IsInOrder, Snapshot, active-is, currency_name, rules, subst, threads-shown, ticket-row-of, unwrap_or, [], ◌≡◌}
 use Rattle.lot_kernel.proofs.settled.Settled.row_of_ticket.Goals as goal
 
 pub returns : goal.returns

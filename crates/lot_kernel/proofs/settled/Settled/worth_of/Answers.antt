@@ -1,5 +1,4 @@
-use Rattle.lot_kernel.proofs.Common.{Threaded, ap, worth_in, ◌∙◌}
-use Rattle.lot_kernel.proofs.Shown.{threads-shown}
+use Rattle.lot_kernel.proofs.Lemmas.{Threaded, ap, threads-shown, worth_in, ◌∙◌}
 use Rattle.lot_kernel.proofs.settled.Settled.worth_of.Goals as goal
 
 pub returns : goal.returns

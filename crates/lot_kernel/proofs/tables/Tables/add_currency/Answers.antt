@@ -1,6 +1,4 @@
-use Rattle.lot_kernel.proofs.Common.{Snapshot, Some, SomeIff, ap, free_currencies, length, subst, sym, [], ◌++◌, ◌∙◌, ◌∷◌, ◌≤◌}
-use Rattle.lot_kernel.proofs.Freeing.{no-first}
-use Rattle.lot_kernel.proofs.Reusing.{currency-last, first-currency, last-currency, on-some}
+use Rattle.lot_kernel.proofs.Lemmas.{Snapshot, Some, SomeIff, ap, currency-last, first-currency, free_currencies, last-currency, length, no-first, on-some, subst, sym, [], ◌++◌, ◌∙◌, ◌∷◌, ◌≤◌}
 use Rattle.lot_kernel.proofs.tables.Tables.add_currency.Goals as goal
 
 pub returns-in-Some-clause-number : goal.returns-in-Some-clause-number

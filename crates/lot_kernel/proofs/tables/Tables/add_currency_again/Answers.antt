@@ -1,8 +1,4 @@
-use Rattle.lot_kernel.proofs.Common.{FreeStack, IsInOrder, IsIndexOf, List, Some, Threaded, ap, arith, freed_in, held, is_some, length, length-set, names_of, option_map, sizes_of, slice_get, slice_get-map, slice_get_within, slice_set, subst, sym, with_currency, ℕ, ◌∙◌}
-use Rattle.lot_kernel.proofs.Holding.{snapshot_of}
-use Rattle.lot_kernel.proofs.Indexed.{gap-free}
-use Rattle.lot_kernel.proofs.Reusing.{first-currency_gap, popped-currencies, room-currencies}
-use Rattle.lot_kernel.proofs.TicketsAgain.{currency-number, currency-there, held-again}
+use Rattle.lot_kernel.proofs.Lemmas.{FreeStack, IsInOrder, IsIndexOf, List, Some, Threaded, ap, arith, currency-number, currency-there, first-currency_gap, freed_in, gap-free, held, held-again, is_some, length, length-set, names_of, option_map, popped-currencies, room-currencies, sizes_of, slice_get, slice_get-map, slice_get_within, slice_set, snapshot_of, subst, sym, with_currency, ℕ, ◌∙◌}
 use Rattle.lot_kernel.proofs.tables.Tables.add_currency_again.Goals as goal
 
 pub apply-requires-clause-allowed : goal.apply-requires-clause-allowed

@@ -1,5 +1,4 @@
-use Rattle.lot_kernel.proofs.Common.{IsFree, subst, sym}
-use Rattle.lot_kernel.proofs.Indexed.{next-free}
+use Rattle.lot_kernel.proofs.Lemmas.{IsFree, next-free, subst, sym}
 use Rattle.lot_kernel.proofs.tables.Tables.add_currency_last.Goals as goal
 
 pub add-requires-clause-free : goal.add-requires-clause-free

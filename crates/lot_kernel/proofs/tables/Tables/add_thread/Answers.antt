@@ -1,5 +1,4 @@
-use Rattle.lot_kernel.proofs.Common.{KeepsStale, MakesStale, Snapshot, Some, Thread, ap, free_threads, length, newborn, subst, sym, [], ◌++◌, ◌+◌, ◌<◌, ◌∙◌, ◌∷◌}
-use Rattle.lot_kernel.proofs.Reusing.{first-thread, last-thread, none-first, thread-last, thread-room}
+use Rattle.lot_kernel.proofs.Lemmas.{KeepsStale, MakesStale, Snapshot, Some, Thread, ap, first-thread, free_threads, last-thread, length, newborn, none-first, subst, sym, thread-last, thread-room, [], ◌++◌, ◌+◌, ◌<◌, ◌∙◌, ◌∷◌}
 use Rattle.lot_kernel.proofs.tables.Tables.add_thread.Goals as goal
 
 pub add_thread_last-requires : goal.add_thread_last-requires

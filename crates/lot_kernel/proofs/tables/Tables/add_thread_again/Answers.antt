@@ -1,8 +1,4 @@
-use Rattle.lot_kernel.proofs.Common.{Contains, FreeStack, HasIdlePlace, IsIndexOf, List, Node, None, Option, Snapshot, Some, Thread, Threaded, ap, arith, freed_in, held, inl, names_of, option_map, sizes_of, slice_get, slice_get_within, slice_set, subst, sym, with_thread, ℕ, ◌+◌, ◌∙◌}
-use Rattle.lot_kernel.proofs.Holding.{held-threads, makes-held}
-use Rattle.lot_kernel.proofs.Indexed.{gap-free}
-use Rattle.lot_kernel.proofs.Reusing.{first-thread_gap, given-threads, popped-threads, room-threads}
-use Rattle.lot_kernel.proofs.ThreadsAgain.{gap-unnamed, names-again, records-again, state-again, threads-again}
+use Rattle.lot_kernel.proofs.Lemmas.{Contains, FreeStack, HasIdlePlace, IsIndexOf, List, Node, None, Option, Snapshot, Some, Thread, Threaded, ap, arith, first-thread_gap, freed_in, gap-free, gap-unnamed, given-threads, held, held-threads, inl, makes-held, names-again, names_of, option_map, popped-threads, records-again, room-threads, sizes_of, slice_get, slice_get_within, slice_set, state-again, subst, sym, threads-again, with_thread, ℕ, ◌+◌, ◌∙◌}
 use Rattle.lot_kernel.proofs.tables.Tables.add_thread_again.Goals as goal
 
 pub overflow_add-number : goal.overflow_add-number

@@ -1,6 +1,4 @@
-use Rattle.lot_kernel.proofs.Common.{IsFree, List, Option, Snapshot, Thread, Threaded, ap, freed_in, length, length-map, names_of, option_map, rules, sizes_of, subst, sym, ◌∙◌, ◌≡◌}
-use Rattle.lot_kernel.proofs.Indexed.{next-free}
-use Rattle.lot_kernel.proofs.Holding.{IsHeld, held-threads, makes-held}
+use Rattle.lot_kernel.proofs.Lemmas.{IsFree, IsHeld, List, Option, Snapshot, Thread, Threaded, ap, freed_in, held-threads, length, length-map, makes-held, names_of, next-free, option_map, rules, sizes_of, subst, sym, ◌∙◌, ◌≡◌}
 use Rattle.lot_kernel.proofs.tables.Tables.add_thread_last.Goals as goal
 
 pub add-requires-clause-free : goal.add-requires-clause-free

@@ -1,5 +1,4 @@
-use Rattle.lot_kernel.proofs.Common.{List, Option, Snapshot, Thread, ap, are_threads_full, false, free_threads, freed_in, held, is_none_free, length, nat_le, sizes_of, sym, true, ◌&&◌, ◌∙◌, ◌≡◌}
-use Rattle.lot_kernel.proofs.Reusing.{given-threads}
+use Rattle.lot_kernel.proofs.Lemmas.{List, Option, Snapshot, Thread, ap, are_threads_full, false, free_threads, freed_in, given-threads, held, is_none_free, length, nat_le, sizes_of, sym, true, ◌&&◌, ◌∙◌, ◌≡◌}
 use Rattle.lot_kernel.proofs.tables.Tables.are_threads_full.Goals as goal
 
 pub returns-then-is_empty : goal.returns-then-is_empty

@@ -1,5 +1,4 @@
-use Rattle.lot_kernel.proofs.Common.{Contains, List, MakeCurrency, MakeFunded, MakeThread, Node, ap, command_step, inl, refl, subst, sym, ◌∙◌}
-use Rattle.lot_kernel.proofs.Holding.{makes-none}
+use Rattle.lot_kernel.proofs.Lemmas.{Contains, List, MakeCurrency, MakeFunded, MakeThread, Node, ap, command_step, inl, makes-none, refl, subst, sym, ◌∙◌}
 use Rattle.lot_kernel.proofs.tables.Tables.command.Goals as goal
 
 pub returns-in-MakeTicket : goal.returns-in-MakeTicket

@@ -1,5 +1,4 @@
-use Rattle.lot_kernel.proofs.Common.{List, None, Option, Snapshot, Some, ap, option_flatten, option_map, sym, ℕ, ◌∙◌}
-use Rattle.lot_kernel.proofs.Looking.{entry-of, entry-missing}
+use Rattle.lot_kernel.proofs.Lemmas.{List, None, Option, Snapshot, Some, ap, entry-missing, entry-of, option_flatten, option_map, sym, ℕ, ◌∙◌}
 use Rattle.lot_kernel.proofs.tables.Tables.currency_numbered.Goals as goal
 
 pub returns-in-Some-clause-meant : goal.returns-in-Some-clause-meant

@@ -1,7 +1,4 @@
-use Rattle.lot_kernel.proofs.Common.{Funding, HasNoCycle, List, MakesStale, Mutex, Snapshot, Threaded, ap, arith, false, freed_in, funding_in, funding_of, held, inl, lends_lead, length, locks-off, mutex_at, option_any, port_holders, refl, sizes_of, subst, sym, the_view, unserved, ◌∙◌, ◌≡◌}
-use Rattle.lot_kernel.proofs.Cutting.{cut-fails, cut-passes}
-use Rattle.lot_kernel.proofs.Holding.{snapshot_of}
-use Rattle.lot_kernel.proofs.Trapping.{running-there}
+use Rattle.lot_kernel.proofs.Lemmas.{Funding, HasNoCycle, List, MakesStale, Mutex, Snapshot, Threaded, ap, arith, cut-fails, cut-passes, false, freed_in, funding_in, funding_of, held, inl, lends_lead, length, locks-off, mutex_at, option_any, port_holders, refl, running-there, sizes_of, snapshot_of, subst, sym, the_view, unserved, ◌∙◌, ◌≡◌}
 use Rattle.lot_kernel.proofs.tables.Tables.cut_before_lock.Goals as goal
 
 pub returns-then-not-self : goal.returns-then-not-self

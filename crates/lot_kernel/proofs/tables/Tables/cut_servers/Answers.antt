@@ -1,8 +1,4 @@
-use Rattle.lot_kernel.proofs.Common.{Bool, Funding, HasHolders, HasNoCycle, List, MakesStaleIn, Mutex, QueueLists, Snapshot, State, Threaded, ap, freed_in, funding_in, funding_of, lends_lead, length, length-map, mutex_at, owner_of, owners_of, port_holders, sizes_of, subst, sym, the_view, unserved, ℕ, ◌∙◌}
-use Rattle.lot_kernel.proofs.Cutting.{cut-held, cut-state, holders-unserved, owners-left}
-use Rattle.lot_kernel.proofs.Holding.{makes-held}
-use Rattle.lot_kernel.proofs.Keeping.{keeps-both}
-use Rattle.lot_kernel.proofs.Serving.{holders-all, holders_from, unserved-count}
+use Rattle.lot_kernel.proofs.Lemmas.{Bool, Funding, HasHolders, HasNoCycle, List, MakesStaleIn, Mutex, QueueLists, Snapshot, State, Threaded, ap, cut-held, cut-state, freed_in, funding_in, funding_of, holders-all, holders-unserved, holders_from, keeps-both, lends_lead, length, length-map, makes-held, mutex_at, owner_of, owners-left, owners_of, port_holders, sizes_of, subst, sym, the_view, unserved, unserved-count, ℕ, ◌∙◌}
 use Rattle.lot_kernel.proofs.tables.Tables.cut_servers.Goals as goal
 
 pub free_leading-requires-clause-no_cycle : goal.free_leading-requires-clause-no_cycle

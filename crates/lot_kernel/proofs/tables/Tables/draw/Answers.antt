@@ -1,10 +1,5 @@
-use Rattle.lot_kernel.proofs.Holding.{held-records, held-stale}
-use Rattle.lot_kernel.proofs.Keeping.{keeps-threads}
+use Rattle.lot_kernel.proofs.Lemmas.{BadProcessor, Busy, Contains, CountsReads, List, MakesStaleIn, Meter, Node, Ready, Record, Runner, Snapshot, Some, Step, Threaded, ap, arith, at_number, busy-on, change-count, change_record, contains-nothing, counted_up, drawn_in, edges_into_all, event_refusal, freed_in, funding_in, held, held-records, held-stale, inl, is_bad_processor, is_some, keeps-threads, length, option_and_then, refl, refused-event-reply, refused-event-state, settled, sizes_of, start-fresh, started, status-there, status_of, step-idle, step-won, subst, sym, the_view, thread_on, true, with_records, ℕ, [], ◌∙◌, ◌≡◌}
 use Rattle.lot_machine.specs.declared.event.Event.TheVariants as event
-use Rattle.lot_kernel.proofs.Common.{BadProcessor, Busy, Contains, CountsReads, List, MakesStaleIn, Meter, Node, Ready, Record, Runner, Snapshot, Some, Step, Threaded, ap, arith, at_number, change_record, contains-nothing, counted_up, drawn_in, edges_into_all, event_refusal, freed_in, funding_in, held, inl, is_bad_processor, is_some, length, option_and_then, refl, settled, sizes_of, started, status_of, subst, sym, the_view, thread_on, true, with_records, ℕ, [], ◌∙◌, ◌≡◌}
-use Rattle.lot_kernel.proofs.Refusing.{busy-on, refused-event-reply, refused-event-state}
-use Rattle.lot_kernel.proofs.Drawing.{start-fresh, step-idle, step-won}
-use Rattle.lot_kernel.proofs.Trapping.{change-count, status-there}
 use Rattle.lot_machine.specs.declared.reply.Reply.TheVariants as answer
 use Rattle.lot_kernel.proofs.tables.Tables.draw.Goals as goal
 

@@ -1,7 +1,4 @@
-use Rattle.lot_kernel.proofs.Common.{HasHolders, IsIndexOf, List, Option, QueueLists, Threaded, ap, arith, freed_in, length, names_of, sizes_of, subst, sym, ℕ, ◌∙◌}
-use Rattle.lot_kernel.proofs.Holding.{makes-held}
-use Rattle.lot_kernel.proofs.Serving.{holders-killed}
-use Rattle.lot_kernel.proofs.Killing.{held-killed, state-killed, records-count, clients-count, out-there, out-count, pass-nowhere, pass-count, pass-owners, end-there, all-queues, all-threads, all-meter, all-stale}
+use Rattle.lot_kernel.proofs.Lemmas.{HasHolders, IsIndexOf, List, Option, QueueLists, Threaded, all-meter, all-queues, all-stale, all-threads, ap, arith, clients-count, end-there, freed_in, held-killed, holders-killed, length, makes-held, names_of, out-count, out-there, pass-count, pass-nowhere, pass-owners, records-count, sizes_of, state-killed, subst, sym, ℕ, ◌∙◌}
 use Rattle.lot_kernel.proofs.tables.Tables.end.Goals as goal
 
 pub take_out-requires : goal.take_out-requires

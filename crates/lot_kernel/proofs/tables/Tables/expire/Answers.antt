@@ -1,6 +1,5 @@
-use Rattle.lot_kernel.proofs.Common.{BadProcessor, None, NotRunning, Snapshot, Some, Step, ap, event_refusal, inl, refl, stopped, sym, thread_on, used_by, ◌-◌, ◌∙◌, ◌≡◌}
+use Rattle.lot_kernel.proofs.Lemmas.{BadProcessor, None, NotRunning, Snapshot, Some, Step, ap, event_refusal, expires, inl, refl, refused-event-reply, refused-event-state, stopped, sym, thread_on, used_by, ◌-◌, ◌∙◌, ◌≡◌}
 use Rattle.lot_machine.specs.declared.event.Event.TheVariants as event
-use Rattle.lot_kernel.proofs.Refusing.{expires, refused-event-reply, refused-event-state}
 use Rattle.lot_kernel.proofs.tables.Tables.expire.Goals as goal
 
 pub returns-then-is_bad_processor : goal.returns-then-is_bad_processor

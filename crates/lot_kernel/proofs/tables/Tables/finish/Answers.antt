@@ -1,8 +1,4 @@
-use Rattle.lot_kernel.proofs.Common.{CanChange, IsTimely, List, Record, Snapshot, Threaded, after_trap, ap, arith, change_record, freed_in, held, length, length-set, refl, rules, set_number, sizes_of, subst, sym, the_view, threads_of, with_ticks, ◌-◌, ◌∙◌, ◌≡◌}
-use Rattle.lot_kernel.proofs.Keeping.{keeps-threads}
-use Rattle.lot_kernel.proofs.Finishing.{can-finish}
-use Rattle.lot_kernel.proofs.Holding.{held-records, makes-held}
-use Rattle.lot_kernel.proofs.Trapping.{status-there}
+use Rattle.lot_kernel.proofs.Lemmas.{CanChange, IsTimely, List, Record, Snapshot, Threaded, after_trap, ap, arith, can-finish, change_record, freed_in, held, held-records, keeps-threads, length, length-set, makes-held, refl, rules, set_number, sizes_of, status-there, subst, sym, the_view, threads_of, with_ticks, ◌-◌, ◌∙◌, ◌≡◌}
 use Rattle.lot_kernel.proofs.tables.Tables.finish.Goals as goal
 
 pub change-requires : goal.change-requires

@@ -1,7 +1,5 @@
-use Rattle.lot_kernel.proofs.Common.{BaseFixed, Cycle, DeadThread, Fund, NoTarget, NoTicket, Option, Refusal, Some, Target, Unfunded, ap, command_effect, command_refusal, first_failing, if◌then◌else◌, inl, is_cycle, refl, sym, target_meant, unless_refused, unwrap_or, with_target, [], ◌∙◌, ◌∷◌, ◌≡◌}
-use Rattle.lot_kernel.proofs.Commanding.{target-funded}
+use Rattle.lot_kernel.proofs.Lemmas.{BaseFixed, Cycle, DeadThread, Fund, NoTarget, NoTicket, Option, Refusal, Some, Target, Unfunded, ap, command_effect, command_refusal, first_failing, if◌then◌else◌, inl, is_cycle, last-reply, last-state, no-target, refl, refused-reply, refused-state, sym, target-funded, target_meant, unless_refused, unwrap_or, with_target, [], ◌∙◌, ◌∷◌, ◌≡◌}
 use Rattle.lot_machine.specs.declared.refusal.Refusal.TheVariants.{Funding}
-use Rattle.lot_kernel.proofs.Refusing.{last-reply, last-state, no-target, refused-reply, refused-state}
 use Rattle.lot_kernel.proofs.tables.Tables.fund.Goals as goal
 
 pub returns-in_default : goal.returns-in_default

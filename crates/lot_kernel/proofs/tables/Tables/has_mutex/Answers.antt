@@ -1,6 +1,4 @@
-use Rattle.lot_kernel.proofs.Common.{Snapshot, ap, arith, length, sizes_of, subst, ◌≤◌}
-use Rattle.lot_kernel.proofs.Refusing.{le-of, mutex-zero, tested-mutex}
-use Rattle.lot_kernel.proofs.Serving.{mutexes-enough}
+use Rattle.lot_kernel.proofs.Lemmas.{Snapshot, ap, arith, le-of, length, mutex-zero, mutexes-enough, sizes_of, subst, tested-mutex, ◌≤◌}
 use Rattle.lot_kernel.proofs.tables.Tables.has_mutex.Goals as goal
 
 pub returns-then-mutex-gt0-clause-missing : goal.returns-then-mutex-gt0-clause-missing

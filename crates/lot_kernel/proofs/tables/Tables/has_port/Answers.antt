@@ -1,5 +1,4 @@
-use Rattle.lot_kernel.proofs.Common.{Snapshot, ap, length, ◌∙◌}
-use Rattle.lot_kernel.proofs.Refusing.{tested-count, tested-zero, within-count}
+use Rattle.lot_kernel.proofs.Lemmas.{Snapshot, ap, length, tested-count, tested-zero, within-count, ◌∙◌}
 use Rattle.lot_kernel.proofs.tables.Tables.has_port.Goals as goal
 
 pub returns-then-port-gt0-clause-missing : goal.returns-then-port-gt0-clause-missing

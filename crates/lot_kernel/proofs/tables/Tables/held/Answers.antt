@@ -1,5 +1,4 @@
-use Rattle.std.proofs.Common.{arith}
-use Rattle.lot_kernel.proofs.Rooms.{rooms-are}
+use Rattle.lot_kernel.proofs.Lemmas.{arith, rooms-are}
 use Rattle.lot_kernel.proofs.tables.Tables.held.Goals as goal
 
 pub held-requires : goal.held-requires

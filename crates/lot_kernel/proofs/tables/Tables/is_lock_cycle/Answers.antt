@@ -1,7 +1,4 @@
-use Rattle.lot_kernel.proofs.Common.{Funding, HasNoCycle, Snapshot, Threaded, ap, arith, false, freed_in, funding_in, funding_of, lends_lead, not, sizes_of, subst, sym, without_servers, ◌∙◌, ◌≡◌}
-use Rattle.lot_kernel.proofs.Holding.{snapshot_of}
-use Rattle.lot_kernel.proofs.PastPorts.{cycle-none, cycle-off, cycle-past}
-use Rattle.lot_kernel.proofs.Trapping.{running-there}
+use Rattle.lot_kernel.proofs.Lemmas.{Funding, HasNoCycle, Snapshot, Threaded, ap, arith, cycle-none, cycle-off, cycle-past, false, freed_in, funding_in, funding_of, lends_lead, not, running-there, sizes_of, snapshot_of, subst, sym, without_servers, ◌∙◌, ◌≡◌}
 use Rattle.lot_kernel.proofs.tables.Tables.is_lock_cycle.Goals as goal
 
 pub lends_lead-requires-clause-thread : goal.lends_lead-requires-clause-thread

@@ -1,5 +1,4 @@
-use Rattle.lot_kernel.proofs.Common.{Snapshot, Some, SomeIff, ap, free_tickets, length, subst, sym, [], ◌++◌, ◌+◌, ◌<◌, ◌∙◌, ◌∷◌}
-use Rattle.lot_kernel.proofs.Reusing.{first-ticket, last-ticket, none-first, on-some, ticket-last}
+use Rattle.lot_kernel.proofs.Lemmas.{Snapshot, Some, SomeIff, ap, first-ticket, free_tickets, last-ticket, length, none-first, on-some, subst, sym, ticket-last, [], ◌++◌, ◌+◌, ◌<◌, ◌∙◌, ◌∷◌}
 use Rattle.lot_kernel.proofs.tables.Tables.issue.Goals as goal
 
 pub returns-in-Some-clause-number : goal.returns-in-Some-clause-number

@@ -1,8 +1,4 @@
-use Rattle.lot_kernel.proofs.Common.{FreeStack, IsInOrder, IsIndexOf, Some, Threaded, ap, arith, freed_in, held, length, names_of, refl, sizes_of, slice_get, slice_get_within, subst, sym, ◌+◌, ◌∙◌}
-use Rattle.lot_kernel.proofs.Freeing.{gap-number}
-use Rattle.lot_kernel.proofs.Holding.{held-tickets}
-use Rattle.lot_kernel.proofs.Reusing.{first-ticket_gap, popped-tickets, room-tickets}
-use Rattle.lot_kernel.proofs.TicketsAgain.{ticket-number, ticket-there}
+use Rattle.lot_kernel.proofs.Lemmas.{FreeStack, IsInOrder, IsIndexOf, Some, Threaded, ap, arith, first-ticket_gap, freed_in, gap-number, held, held-tickets, length, names_of, popped-tickets, refl, room-tickets, sizes_of, slice_get, slice_get_within, subst, sym, ticket-number, ticket-there, ◌+◌, ◌∙◌}
 use Rattle.lot_kernel.proofs.tables.Tables.issue_again.Goals as goal
 
 pub overflow_add-number : goal.overflow_add-number

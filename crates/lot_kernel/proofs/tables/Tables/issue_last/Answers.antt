@@ -1,6 +1,4 @@
-use Rattle.lot_kernel.proofs.Holding.{held-tickets}
-use Rattle.lot_kernel.proofs.Common.{Threaded, ap, freed_in, length, sizes_of}
-use Rattle.lot_kernel.proofs.Keeping.{keeps-threads}
+use Rattle.lot_kernel.proofs.Lemmas.{Threaded, ap, freed_in, held-tickets, keeps-threads, length, sizes_of}
 use Rattle.lot_kernel.proofs.tables.Tables.issue_last.Goals as goal
 
 pub invariant_of-self : goal.invariant_of-self

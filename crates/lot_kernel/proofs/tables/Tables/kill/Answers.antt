@@ -1,5 +1,4 @@
-use Rattle.lot_kernel.proofs.Common.{DeadThread, Kill, NoThread, None, Option, Some, Step, ap, command_refusal, inl, killed, meant-within, refl, sym, thread_meant, unwrap_or, ℕ, ◌∙◌, ◌≡◌}
-use Rattle.lot_kernel.proofs.Refusing.{done, refused-reply, refused-state}
+use Rattle.lot_kernel.proofs.Lemmas.{DeadThread, Kill, NoThread, None, Option, Some, Step, ap, command_refusal, done, inl, killed, meant-within, refl, refused-reply, refused-state, sym, thread_meant, unwrap_or, ℕ, ◌∙◌, ◌≡◌}
 use Rattle.lot_kernel.proofs.tables.Tables.kill.Goals as goal
 
 pub end-requires-clause-there : goal.end-requires-clause-there

@@ -1,5 +1,4 @@
-use Rattle.lot_kernel.proofs.Common.{Funding, LimitedFunding, Snapshot, ap, arith, funding_in, funding_of, lends_lead_within, length, suc, sym, without_servers, ◌+◌, ◌-◌, ◌<◌, ◌∙◌, ◌≡◌}
-use Rattle.lot_kernel.proofs.PastPorts.{walk-ends, walk-goes, walk-stops}
+use Rattle.lot_kernel.proofs.Lemmas.{Funding, LimitedFunding, Snapshot, ap, arith, funding_in, funding_of, lends_lead_within, length, suc, sym, walk-ends, walk-goes, walk-stops, without_servers, ◌+◌, ◌-◌, ◌<◌, ◌∙◌, ◌≡◌}
 use Rattle.lot_kernel.proofs.tables.Tables.leads_past_ports.Goals as goal
 
 pub loop-init : goal.loop-init

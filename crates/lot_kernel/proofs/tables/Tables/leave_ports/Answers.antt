@@ -1,5 +1,4 @@
-use Rattle.lot_kernel.proofs.Common.{Snapshot, State, ap, arith, holders, left_by, length, port_holders, sizes_of, subst, sym, ◌+◌, ◌<◌, ◌==◌, ◌∙◌, ◌≡◌}
-use Rattle.lot_kernel.proofs.Serving.{AreGone, gone-all, gone-count, gone-next, gone-ports, holders-next, holders-none, holders_from, mutexes-enough, unserved-count}
+use Rattle.lot_kernel.proofs.Lemmas.{AreGone, Snapshot, State, ap, arith, gone-all, gone-count, gone-next, gone-ports, holders, holders-next, holders-none, holders_from, left_by, length, mutexes-enough, port_holders, sizes_of, subst, sym, unserved-count, ◌+◌, ◌<◌, ◌==◌, ◌∙◌, ◌≡◌}
 use Rattle.lot_kernel.proofs.tables.Tables.leave_ports.Goals as goal
 
 pub loop-place-init : goal.loop-place-init

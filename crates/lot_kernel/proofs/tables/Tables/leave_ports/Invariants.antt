@@ -1,6 +1,5 @@
 -- the ports from the place on are to be left, and nothing but servers has changed
-use Rattle.lot_kernel.proofs.Common.{left_by, length, ◌==◌, ◌≤◌}
-use Rattle.lot_kernel.proofs.Serving.{AreGone, holders_from}
+use Rattle.lot_kernel.proofs.Lemmas.{AreGone, holders_from, left_by, length, ◌==◌, ◌≤◌}
 use Rattle.lot_kernel.proofs.tables.Tables.leave_ports.Given as goal
 
 abbrev pub invariant-loop-place : goal.invariant-loop-place

@@ -1,10 +1,5 @@
-use Rattle.lot_kernel.proofs.Common.{Contains, HasHolders, MakesStale, None, QueueLists, Snapshot, State, Threaded, ap, before_lock, freed_in, length, lock, nowhere-running, sizes_of, subst, sym, the_view, trap_refusal, ◌∙◌, ◌≡◌}
+use Rattle.lot_kernel.proofs.Lemmas.{Contains, HasHolders, MakesStale, None, QueueLists, Snapshot, State, Threaded, ap, before_lock, cut-queues, cut-runs, cut-there, freed_in, held-mutexes, holders-lock, keeps-both, length, lock, lock-count, lock-there, makes-held, makes-locked, mutexes-state, nowhere-running, sizes_of, snapshot_of, subst, sym, the_view, trap_refusal, ◌∙◌, ◌≡◌}
 use Rattle.lot_machine.specs.declared.action.Action.TheVariants as action
-use Rattle.lot_kernel.proofs.Cutting.{cut-queues, cut-runs, cut-there, makes-locked}
-use Rattle.lot_kernel.proofs.Holding.{held-mutexes, makes-held, snapshot_of}
-use Rattle.lot_kernel.proofs.Keeping.{keeps-both}
-use Rattle.lot_kernel.proofs.Serving.{holders-lock}
-use Rattle.lot_kernel.proofs.Trapping.{lock-count, lock-there, mutexes-state}
 use Rattle.lot_kernel.proofs.tables.Tables.lock.Goals as goal
 
 pub lock-requires-clause-nowhere : goal.lock-requires-clause-nowhere

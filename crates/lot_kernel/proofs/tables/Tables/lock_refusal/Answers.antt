@@ -1,5 +1,4 @@
-use Rattle.lot_kernel.proofs.Trapping.{lock-checked}
-use Rattle.lot_kernel.proofs.Common.{Snapshot, Some, ap, eq-eqb, false, mutex_at, not, refl, sym, true, ◌∙◌}
+use Rattle.lot_kernel.proofs.Lemmas.{Snapshot, Some, ap, eq-eqb, false, lock-checked, mutex_at, not, refl, sym, true, ◌∙◌}
 use Rattle.lot_kernel.proofs.tables.Tables.lock_refusal.Goals as goal
 
 pub returns-then-not-has_mutex : goal.returns-then-not-has_mutex

@@ -1,6 +1,5 @@
 use Rattle.lot_machine.specs.declared.reply.Reply.TheVariants.{Currency}
-use Rattle.lot_kernel.proofs.Common.{BadName, Full, MakeCurrency, NameTaken, None, Sizes, Snapshot, Some, Step, ap, are_currencies_full, command_refusal, is_name, refl, sizes_of, sym, ◌∙◌, ◌≡◌}
-use Rattle.lot_kernel.proofs.Refusing.{done, full-alone, refused-reply, refused-state, taken}
+use Rattle.lot_kernel.proofs.Lemmas.{BadName, Full, MakeCurrency, NameTaken, None, Sizes, Snapshot, Some, Step, ap, are_currencies_full, command_refusal, done, full-alone, is_name, refl, refused-reply, refused-state, sizes_of, sym, taken, ◌∙◌, ◌≡◌}
 use Rattle.lot_kernel.proofs.tables.Tables.make_currency.Goals as goal
 
 pub returns-then-not-allow_name : goal.returns-then-not-allow_name

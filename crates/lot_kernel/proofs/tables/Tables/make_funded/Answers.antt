@@ -1,9 +1,5 @@
-use Rattle.lot_kernel.proofs.Common.{BadAmount, BadName, Contains, Full, Funded, HasIdlePlace, IsInOrder, List, MakeFunded, NameTaken, NoCurrency, NoScript, None, Option, Snapshot, Some, State, Step, Ticket, Unfunded, ap, are_threads_full, are_tickets_full, arith, command_refusal, currency_meant, free_tickets, funding_of, inl, is_no_script, is_taken, is_thread_name, length, next_thread, next_ticket, not, option_flatten, placed, refl, retargeted, subst, sym, ticket_at, unwrap_or, with_target, with_thread, with_ticket, ℕ, [], ◌||◌, ◌∙◌, ◌∷◌, ◌≡◌}
+use Rattle.lot_kernel.proofs.Lemmas.{BadAmount, BadName, Contains, Full, Funded, HasIdlePlace, IsInOrder, List, MakeFunded, NameTaken, NoCurrency, NoScript, None, Option, Snapshot, Some, State, Step, Ticket, Unfunded, ap, are_threads_full, are_tickets_full, arith, command_refusal, currency_meant, done, first-full, free_tickets, funded-placed, funding_of, good-amount, idle-place, inl, is_no_script, is_taken, is_thread_name, length, makes-funded, next-there, next-within, next_thread, next_ticket, not, option_flatten, placed, refl, refused-reply, refused-state, retargeted, second-full, subst, sym, target-funded, thread-no-cycle, three-fail, three-pass, ticket-gap, ticket_at, unwrap_or, with_target, with_thread, with_ticket, ℕ, [], ◌||◌, ◌∙◌, ◌∷◌, ◌≡◌}
 use Rattle.lot_machine.specs.declared.ticket.Target.TheVariants.{Thread}
-use Rattle.lot_kernel.proofs.Commanding.{funded-placed, good-amount, makes-funded, next-there, target-funded, thread-no-cycle}
-use Rattle.lot_kernel.proofs.Freeing.{idle-place, ticket-gap}
-use Rattle.lot_kernel.proofs.Refusing.{done, first-full, refused-reply, refused-state, second-full, three-fail, three-pass}
-use Rattle.lot_kernel.proofs.Reusing.{next-within}
 use Rattle.lot_kernel.proofs.tables.Tables.make_funded.Goals as goal
 
 -- the ticket that is issued

@@ -1,7 +1,5 @@
-use Rattle.lot_kernel.proofs.Common.{BadName, Full, MakeThread, NameTaken, NoScript, None, Some, Step, ap, are_threads_full, command_refusal, inl, is_no_script, is_taken, is_thread_name, not, refl, sym, [], ◌∙◌, ◌∷◌, ◌≡◌}
+use Rattle.lot_kernel.proofs.Lemmas.{BadName, Full, MakeThread, NameTaken, NoScript, None, Some, Step, ap, are_threads_full, command_refusal, done, idle-place, inl, is_no_script, is_taken, is_thread_name, not, refl, refused-reply, refused-state, sym, three-fail, three-pass, [], ◌∙◌, ◌∷◌, ◌≡◌}
 use Rattle.lot_machine.specs.declared.reply.Reply.TheVariants as reply
-use Rattle.lot_kernel.proofs.Freeing.{idle-place}
-use Rattle.lot_kernel.proofs.Refusing.{done, refused-reply, refused-state, three-fail, three-pass}
 use Rattle.lot_kernel.proofs.tables.Tables.make_thread.Goals as goal
 
 pub returns-in-Some : goal.returns-in-Some

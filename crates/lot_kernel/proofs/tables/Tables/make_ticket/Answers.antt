@@ -1,7 +1,5 @@
-use Rattle.lot_kernel.proofs.Commanding.{good-amount}
+use Rattle.lot_kernel.proofs.Lemmas.{BadAmount, Full, MakeTicket, NoCurrency, None, Option, Snapshot, Some, Step, Unfunded, ap, are_tickets_full, command_refusal, currency_meant, done, full-alone, good-amount, refl, refused-reply, refused-state, sym, unwrap_or, with_ticket, ℕ, ◌∙◌, ◌≡◌}
 use Rattle.lot_machine.specs.declared.reply.Reply.TheVariants as reply
-use Rattle.lot_kernel.proofs.Common.{BadAmount, Full, MakeTicket, NoCurrency, None, Option, Snapshot, Some, Step, Unfunded, ap, are_tickets_full, command_refusal, currency_meant, refl, sym, unwrap_or, with_ticket, ℕ, ◌∙◌, ◌≡◌}
-use Rattle.lot_kernel.proofs.Refusing.{done, full-alone, refused-reply, refused-state}
 use Rattle.lot_kernel.proofs.tables.Tables.make_ticket.Goals as goal
 
 pub issue-requires-clause-issuer : goal.issue-requires-clause-issuer

@@ -1,8 +1,4 @@
-use Rattle.lot_kernel.proofs.Metering.{trap-then}
-use Rattle.lot_kernel.proofs.Common.{Action, CanLend, IsBetween, IsInOrder, Record, Running, RunsAlone, RunsOn, Sizes, Snapshot, State, StopsIfLeaves, ap, at_number, effect_of, ends_quantum, funding_of, holders, lend_of, length, option_map, record-of, refl, status_of, subst, sym, ℕ, ◌∙◌, ◌≡◌}
-use Rattle.lot_kernel.proofs.Leaving.{effect-leaves}
-use Rattle.lot_kernel.proofs.TrapEnds.{effect-limits, effect-runs, finished-reply, finished-state, lends-there, makes-trap}
-use Rattle.lot_kernel.proofs.Finishing.{may-leave}
+use Rattle.lot_kernel.proofs.Lemmas.{Action, CanLend, IsBetween, IsInOrder, Record, Running, RunsAlone, RunsOn, Sizes, Snapshot, State, StopsIfLeaves, ap, at_number, effect-leaves, effect-limits, effect-runs, effect_of, ends_quantum, finished-reply, finished-state, funding_of, holders, lend_of, lends-there, length, makes-trap, may-leave, option_map, record-of, refl, status_of, subst, sym, trap-then, ℕ, ◌∙◌, ◌≡◌}
 use Rattle.lot_kernel.proofs.tables.Tables.make_trap.Goals as goal
 
 -- the thread's record is as it was before the trap

@@ -1,7 +1,5 @@
-use Rattle.lot_kernel.proofs.Common.{HasNoCycle, MakesStale, None, Outcome, Snapshot, Threaded, ap, freed_in, funding_in, held, held_by, served_at, set_number, sizes_of, subst, sym, ◌+◌, ◌∙◌}
+use Rattle.lot_kernel.proofs.Lemmas.{HasNoCycle, MakesStale, None, Outcome, Snapshot, Threaded, ap, freed_in, funding_in, held, held_by, served-back, served-kept, served_at, set_number, sizes_of, snapshot_of, subst, sym, ◌+◌, ◌∙◌}
 use Rattle.lot_machine.specs.declared.reply.Outcome.TheVariants as outcomes
-use Rattle.lot_kernel.proofs.Holding.{snapshot_of}
-use Rattle.lot_kernel.proofs.Serving.{served-back, served-kept}
 use Rattle.lot_kernel.proofs.tables.Tables.move_server.Goals as goal
 
 pub does_lead-requires-clause-no_cycle : goal.does_lead-requires-clause-no_cycle

@@ -1,5 +1,4 @@
-use Rattle.lot_kernel.proofs.Common.{arith, freed_in, refl, sizes_of}
-use Rattle.lot_kernel.proofs.Opening.{opening-held, opening-holders, opening-starts}
+use Rattle.lot_kernel.proofs.Lemmas.{arith, freed_in, opening-held, opening-holders, opening-starts, refl, sizes_of}
 use Rattle.lot_kernel.proofs.tables.Tables.new.Goals as goal
 
 pub invariant_of-result : goal.invariant_of-result

@@ -1,6 +1,5 @@
-use Rattle.lot_kernel.proofs.Common.{BadProcessor, BadTicks, None, NotRunning, Snapshot, Some, Step, Threaded, ap, arith, compensation_for, event_refusal, inl, refl, stopped, subst, sym, thread_on, used_by, ◌+◌, ◌-◌, ◌<◌, ◌^◌, ◌∙◌, ◌≡◌}
+use Rattle.lot_kernel.proofs.Lemmas.{BadProcessor, BadTicks, None, NotRunning, Snapshot, Some, Step, Threaded, ap, arith, compensation_for, event_refusal, inl, over-overrun, overruns, refl, refused-event-reply, refused-event-state, stopped, subst, sym, thread_on, used_by, ◌+◌, ◌-◌, ◌<◌, ◌^◌, ◌∙◌, ◌≡◌}
 use Rattle.lot_machine.specs.declared.event.Event.TheVariants as event
-use Rattle.lot_kernel.proofs.Refusing.{over-overrun, overruns, refused-event-reply, refused-event-state}
 use Rattle.lot_kernel.proofs.tables.Tables.overrun.Goals as goal
 
 pub returns-then-is_bad_processor : goal.returns-then-is_bad_processor

@@ -1,5 +1,4 @@
-use Rattle.lot_kernel.proofs.Common.{Funding, LimitedFunding, ap, arith, funding_in, owner_of, sym, the_view, ◌∙◌}
-use Rattle.lot_kernel.proofs.PastPorts.{holder-free, mutex-kept}
+use Rattle.lot_kernel.proofs.Lemmas.{Funding, LimitedFunding, ap, arith, funding_in, holder-free, mutex-kept, owner_of, sym, the_view, ◌∙◌}
 use Rattle.lot_kernel.proofs.tables.Tables.owner_past_ports.Goals as goal
 
 pub returns-then-mutex-self : goal.returns-then-mutex-self

@@ -1,6 +1,5 @@
-use Rattle.lot_kernel.proofs.Common.{BadProcessor, BadTicks, None, NotRunning, Snapshot, Some, Step, ap, arith, event_refusal, inl, refl, sym, thread_on, used_by, ◌∙◌, ◌≡◌}
+use Rattle.lot_kernel.proofs.Lemmas.{BadProcessor, BadTicks, None, NotRunning, Snapshot, Some, Step, ap, arith, event_refusal, inl, over-preempted, preempts, refl, refused-event-reply, refused-event-state, sym, thread_on, used_by, ◌∙◌, ◌≡◌}
 use Rattle.lot_machine.specs.declared.event.Event.TheVariants as event
-use Rattle.lot_kernel.proofs.Refusing.{over-preempted, preempts, refused-event-reply, refused-event-state}
 use Rattle.lot_kernel.proofs.tables.Tables.preempt.Goals as goal
 
 pub returns-then-is_bad_processor : goal.returns-then-is_bad_processor

@@ -1,6 +1,4 @@
-use Rattle.lot_kernel.proofs.Keeping.{keeps-threads}
-use Rattle.lot_kernel.proofs.Common.{CanTarget, Funding, Option, Snapshot, Some, Threaded, Ticket, ap, freed_in, funding_in, held, length, option_map, refl, retargeted, set_number, sizes_of, subst, sym, with_target, ◌∙◌, ◌≡◌}
-use Rattle.lot_kernel.proofs.Holding.{held-tickets, makes-held}
+use Rattle.lot_kernel.proofs.Lemmas.{CanTarget, Funding, Option, Snapshot, Some, Threaded, Ticket, ap, freed_in, funding_in, held, held-tickets, keeps-threads, length, makes-held, option_map, refl, retargeted, set_number, sizes_of, subst, sym, with_target, ◌∙◌, ◌≡◌}
 use Rattle.lot_kernel.proofs.tables.Tables.put_target.Goals as goal
 
 pub apply-requires-clause-allowed : goal.apply-requires-clause-allowed

@@ -1,5 +1,4 @@
-use Rattle.lot_kernel.proofs.Common.{Bool, IsFunding, LimitedFunding, Snapshot, Some, Threaded, Ticket, ap, counted_up, false, freed_in, funding_in, if◌then◌else◌, is_funding, live_in, option_any, refl, rules, settled_in, sizes_of, sym, ticket_at, ticket_in, ticket_value, true, with_ticket_read, ℕ, [], ◌∙◌, ◌≡◌}
-use Rattle.lot_kernel.proofs.Holding.{held-stale, settles-held, snapshot_of}
+use Rattle.lot_kernel.proofs.Lemmas.{Bool, IsFunding, LimitedFunding, Snapshot, Some, Threaded, Ticket, ap, counted_up, false, freed_in, funding_in, held-stale, if◌then◌else◌, is_funding, live_in, option_any, refl, rules, settled_in, settles-held, sizes_of, snapshot_of, sym, ticket_at, ticket_in, ticket_value, true, with_ticket_read, ℕ, [], ◌∙◌, ◌≡◌}
 use Rattle.lot_kernel.proofs.tables.Tables.read_ticket.Goals as goal
 
 -- what is counted

@@ -1,7 +1,4 @@
-use Rattle.lot_kernel.proofs.Common.{BaseFixed, FreeStack, Funding, IsInOrder, LimitedFunding, NoCurrency, None, RemoveCurrency, Snapshot, Some, Step, Threaded, ap, arith, backing_currency, command_refusal, false, freed_in, funding_in, funding_of, held, is_in_use, is_some, issued_in, length-map, map, ne_eqb, refl, rules, sizes_of, slice_get, slice_get_within, subst, sym, true, [], ◌∙◌, ◌≡◌}
-use Rattle.lot_kernel.proofs.Refusing.{done, refused-reply, refused-state}
-use Rattle.lot_kernel.proofs.Reusing.{currency-fits, currency-left, none-currencies, room-currencies, room-on}
-use Rattle.lot_kernel.proofs.Holding.{held-removed}
+use Rattle.lot_kernel.proofs.Lemmas.{BaseFixed, FreeStack, Funding, IsInOrder, LimitedFunding, NoCurrency, None, RemoveCurrency, Snapshot, Some, Step, Threaded, ap, arith, backing_currency, command_refusal, currency-fits, currency-left, done, false, freed_in, funding_in, funding_of, held, held-removed, is_in_use, is_some, issued_in, length-map, map, ne_eqb, none-currencies, refl, refused-reply, refused-state, room-currencies, room-on, rules, sizes_of, slice_get, slice_get_within, subst, sym, true, [], ◌∙◌, ◌≡◌}
 use Rattle.lot_kernel.proofs.tables.Tables.remove_currency.Goals as goal
 
 pub apply-requires-clause-allowed : goal.apply-requires-clause-allowed

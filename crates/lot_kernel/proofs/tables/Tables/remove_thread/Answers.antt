@@ -1,8 +1,4 @@
-use Rattle.lot_kernel.proofs.Common.{Alive, Contains, FreeStack, InUse, IsInOrder, IsIndexOf, List, NoThread, Node, None, Option, RemoveThread, Snapshot, Some, Step, Thread, Threaded, ap, arith, command_refusal, cond, false, freed_in, held, inl, is_dead_in, is_thread_in_use, map-set, names_of, option_map, refl, rules, sizes_of, slice_get, slice_get_within, slice_set, subst, sym, thread_meant, true, ℕ, ◌-◌, ◌∙◌, ◌∷◌, ◌≡◌}
-use Rattle.lot_kernel.proofs.Refusing.{done, refused-reply, refused-state}
-use Rattle.lot_kernel.proofs.Reusing.{none-threads, room-threads, room-on, thread-fits}
-use Rattle.lot_kernel.proofs.ThreadsAgain.{removes-thread, thread-gone}
-use Rattle.lot_kernel.proofs.Indexed.{meant-place}
+use Rattle.lot_kernel.proofs.Lemmas.{Alive, Contains, FreeStack, InUse, IsInOrder, IsIndexOf, List, NoThread, Node, None, Option, RemoveThread, Snapshot, Some, Step, Thread, Threaded, ap, arith, command_refusal, cond, done, false, freed_in, held, inl, is_dead_in, is_thread_in_use, map-set, meant-place, names_of, none-threads, option_map, refl, refused-reply, refused-state, removes-thread, room-on, room-threads, rules, sizes_of, slice_get, slice_get_within, slice_set, subst, sym, thread-fits, thread-gone, thread_meant, true, ℕ, ◌-◌, ◌∙◌, ◌∷◌, ◌≡◌}
 use Rattle.lot_kernel.proofs.tables.Tables.remove_thread.Goals as goal
 
 pub remove-requires : goal.remove-requires

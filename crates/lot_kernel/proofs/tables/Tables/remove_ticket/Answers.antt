@@ -1,8 +1,5 @@
-use Rattle.lot_kernel.proofs.Common.{FreeStack, IsInOrder, NoTicket, None, RemoveTicket, Snapshot, Some, Step, Threaded, ap, arith, command_refusal, freed_in, held, refl, rules, sizes_of, sym, ◌∙◌, ◌≡◌}
+use Rattle.lot_kernel.proofs.Lemmas.{FreeStack, IsInOrder, NoTicket, None, RemoveTicket, Snapshot, Some, Step, Threaded, ap, arith, command_refusal, done, freed_in, held, held-tickets, none-tickets, refl, refused-reply, refused-state, room-on, room-tickets, rules, sizes_of, sym, ticket-fits, ticket-left, ticket-some, ◌∙◌, ◌≡◌}
 use Rattle.lot_machine.specs.declared.refusal.Refusal.TheVariants.{Funding}
-use Rattle.lot_kernel.proofs.Refusing.{done, refused-reply, refused-state}
-use Rattle.lot_kernel.proofs.Holding.{held-tickets}
-use Rattle.lot_kernel.proofs.Reusing.{none-tickets, room-tickets, room-on, ticket-fits, ticket-left, ticket-some}
 use Rattle.lot_kernel.proofs.tables.Tables.remove_ticket.Goals as goal
 
 pub index_of-requires : goal.index_of-requires

@@ -1,9 +1,5 @@
-use Rattle.lot_kernel.proofs.Common.{NothingToReply, QueueLists, Threaded, ap, arith, freed_in, refl, sizes_of, sym, the_view}
-use Rattle.lot_kernel.proofs.Keeping.{keeps-both}
+use Rattle.lot_kernel.proofs.Lemmas.{NothingToReply, QueueLists, Threaded, ap, arith, freed_in, keeps-both, port-leaves, port-shows, refl, refused-shows, reply-done, reply-keeps, running-there, sizes_of, sym, the_view}
 use Rattle.lot_machine.specs.declared.action.Action.TheVariants as action
-use Rattle.lot_kernel.proofs.Refusing.{refused-shows}
-use Rattle.lot_kernel.proofs.PortTraps.{port-leaves, port-shows}
-use Rattle.lot_kernel.proofs.Trapping.{reply-done, reply-keeps, running-there}
 use Rattle.lot_kernel.proofs.tables.Tables.reply.Goals as goal
 
 pub reply-requires-clause-server : goal.reply-requires-clause-server

@@ -1,7 +1,4 @@
-use Rattle.lot_kernel.proofs.Common.{IsThere, List, Mutex, QueueLists, Threaded, ap, freed_in, hand-mutex, inl, length, refl, sizes_of, sym, the_view, ◌<◌, ◌∙◌}
-use Rattle.lot_kernel.proofs.Holding.{makes-held}
-use Rattle.lot_kernel.proofs.Keeping.{keeps-both}
-use Rattle.lot_kernel.proofs.Serving.{options-differ, options-same, owner-seen, server-held, server-holders, server-same, server-state}
+use Rattle.lot_kernel.proofs.Lemmas.{IsThere, List, Mutex, QueueLists, Threaded, ap, freed_in, hand-mutex, inl, keeps-both, length, makes-held, options-differ, options-same, owner-seen, refl, server-held, server-holders, server-same, server-state, sizes_of, sym, the_view, ◌<◌, ◌∙◌}
 use Rattle.lot_kernel.proofs.tables.Tables.set_server.Goals as goal
 
 pub owner-requires : goal.owner-requires

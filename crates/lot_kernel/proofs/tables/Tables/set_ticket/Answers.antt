@@ -1,8 +1,4 @@
-use Rattle.lot_kernel.proofs.Keeping.{keeps-threads}
-use Rattle.lot_kernel.proofs.Common.{BadAmount, NoTicket, None, SetTicket, Snapshot, Some, Step, Threaded, ap, command_refusal, freed_in, funding_in, held, inl, is_none, is_some, length, refl, sizes_of, sym, ticket_in, with_amount, ◌∙◌, ◌≡◌}
-use Rattle.lot_kernel.proofs.Refusing.{done, missing, present, refused-reply, refused-state}
-use Rattle.lot_kernel.proofs.Commanding.{good-amount, ticket-found}
-use Rattle.lot_kernel.proofs.Holding.{held-tickets, makes-held}
+use Rattle.lot_kernel.proofs.Lemmas.{BadAmount, NoTicket, None, SetTicket, Snapshot, Some, Step, Threaded, ap, command_refusal, done, freed_in, funding_in, good-amount, held, held-tickets, inl, is_none, is_some, keeps-threads, length, makes-held, missing, present, refl, refused-reply, refused-state, sizes_of, sym, ticket-found, ticket_in, with_amount, ◌∙◌, ◌≡◌}
 use Rattle.lot_kernel.proofs.tables.Tables.set_ticket.Goals as goal
 
 pub apply-requires-clause-allowed : goal.apply-requires-clause-allowed

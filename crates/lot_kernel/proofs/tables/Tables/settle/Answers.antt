@@ -1,5 +1,4 @@
-use Rattle.lot_kernel.proofs.Keeping.{keeps-settled}
-use Rattle.lot_kernel.proofs.Common.{Funding, Snapshot, Threaded, ap, counted_up, edges_into_all, freed_in, funding_in, held, sizes_of, [], ◌∙◌}
+use Rattle.lot_kernel.proofs.Lemmas.{Funding, Snapshot, Threaded, ap, counted_up, edges_into_all, freed_in, funding_in, held, keeps-settled, sizes_of, [], ◌∙◌}
 use Rattle.lot_kernel.proofs.tables.Tables.settle.Goals as goal
 
 pub returns-clause-settled : goal.returns-clause-settled

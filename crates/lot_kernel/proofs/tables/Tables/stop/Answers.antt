@@ -1,7 +1,5 @@
 use Rattle.lot_machine.specs.declared.record.Thread.{Thread as AThread}
-use Rattle.lot_kernel.proofs.Common.{IsIndexOf, List, Option, Snapshot, Threaded, ap, arith, freed_in, held, length, names_of, refl, sizes_of, stopped, subst, sym, ◌∙◌}
-use Rattle.lot_kernel.proofs.Trapping.{change-count}
-use Rattle.lot_kernel.proofs.Holding.{held-records, makes-held}
+use Rattle.lot_kernel.proofs.Lemmas.{IsIndexOf, List, Option, Snapshot, Threaded, ap, arith, change-count, freed_in, held, held-records, length, makes-held, names_of, refl, sizes_of, stopped, subst, sym, ◌∙◌}
 use Rattle.lot_kernel.proofs.tables.Tables.stop.Goals as goal
 
 pub returns-clause-stale : goal.returns-clause-stale

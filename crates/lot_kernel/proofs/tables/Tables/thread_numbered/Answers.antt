@@ -1,6 +1,5 @@
 use Rattle.lot_machine.specs.declared.record.Thread.{Thread as AThread}
-use Rattle.lot_kernel.proofs.Common.{None, Option, Snapshot, Some, ap, option_flatten, option_map, refl, sym, ◌∙◌}
-use Rattle.lot_kernel.proofs.Looking.{entry-of, entry-missing, numbered}
+use Rattle.lot_kernel.proofs.Lemmas.{None, Option, Snapshot, Some, ap, entry-missing, entry-of, numbered, option_flatten, option_map, refl, sym, ◌∙◌}
 use Rattle.lot_kernel.proofs.tables.Tables.thread_numbered.Goals as goal
 
 pub returns-then-number-eq0-clause-meant : goal.returns-then-number-eq0-clause-meant

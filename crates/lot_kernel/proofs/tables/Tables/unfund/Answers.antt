@@ -1,5 +1,4 @@
-use Rattle.lot_kernel.proofs.Common.{NoTicket, None, NotFunding, Some, Step, Unfund, ap, command_refusal, inl, refl, sym, ◌∙◌, ◌≡◌}
-use Rattle.lot_kernel.proofs.Refusing.{done, refused-reply, refused-state}
+use Rattle.lot_kernel.proofs.Lemmas.{NoTicket, None, NotFunding, Some, Step, Unfund, ap, command_refusal, done, inl, refl, refused-reply, refused-state, sym, ◌∙◌, ◌≡◌}
 use Rattle.lot_kernel.proofs.tables.Tables.unfund.Goals as goal
 
 pub returns-in_default : goal.returns-in_default

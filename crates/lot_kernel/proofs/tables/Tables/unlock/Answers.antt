@@ -1,12 +1,5 @@
-use Rattle.lot_kernel.proofs.Keeping.{keeps-both}
+use Rattle.lot_kernel.proofs.Lemmas.{Effect, HasHolders, IsThere, MutexTrap, NoMutex, NotOwner, QueueLists, Snapshot, Some, Threaded, ap, false, freed_in, held, held-mutexes, holders-unlock, is_no_mutex, keeps-both, length, makes-held, mutex_at, mutexes-state, nat_eq, not, not-owner, of_mutexes, option_eq, owns, refl, refused-shows, rules, settled_in, sizes_of, subst, sym, the_view, unlock, unlock-count, unlock-counts, unlock-done, unlock-same, waiters-queue, worth_in, ◌∙◌, ◌≡◌, ◌≤◌}
 use Rattle.lot_machine.specs.declared.action.Action.TheVariants as action
-use Rattle.lot_kernel.proofs.Common.{Effect, HasHolders, IsThere, MutexTrap, NoMutex, NotOwner, QueueLists, Snapshot, Some, Threaded, ap, false, freed_in, held, is_no_mutex, length, mutex_at, nat_eq, not, of_mutexes, option_eq, owns, refl, rules, settled_in, sizes_of, subst, sym, the_view, unlock, worth_in, ◌∙◌, ◌≡◌, ◌≤◌}
-use Rattle.lot_kernel.proofs.Refusing.{not-owner, refused-shows}
-use Rattle.lot_kernel.proofs.Holding.{held-mutexes, makes-held}
-use Rattle.lot_kernel.proofs.Trapping.{mutexes-state, unlock-count, unlock-done, unlock-same}
-use Rattle.lot_kernel.proofs.Leaving.{waiters-queue}
-use Rattle.lot_kernel.proofs.Metering.{unlock-counts}
-use Rattle.lot_kernel.proofs.Serving.{holders-unlock}
 use Rattle.lot_kernel.proofs.tables.Tables.unlock.Goals as goal
 
 pub invariant_of-self : goal.invariant_of-self

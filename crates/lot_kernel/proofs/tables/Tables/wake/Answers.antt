@@ -1,10 +1,6 @@
-use Rattle.lot_kernel.proofs.Trapping.{change-count}
-use Rattle.lot_kernel.proofs.Keeping.{keeps-threads}
-use Rattle.lot_kernel.proofs.Common.{NoThread, None, NotAsleep, Snapshot, Some, Step, Threaded, ap, event_refusal, freed_in, held, inl, is_some, length, refl, sizes_of, sym, thread_at, wake, ◌∙◌, ◌≡◌}
+use Rattle.lot_kernel.proofs.Lemmas.{NoThread, None, NotAsleep, Snapshot, Some, Step, Threaded, ap, change-count, event-done, event_refusal, freed_in, held, held-records, inl, is_some, keeps-threads, length, makes-held, missing-of, present-of, refl, refused-event-reply, refused-event-state, sizes_of, sym, thread_at, wake, ◌∙◌, ◌≡◌}
 use Rattle.lot_machine.specs.declared.record.Thread.{Thread as AThread}
 use Rattle.lot_machine.specs.declared.event.Event.TheVariants as event
-use Rattle.lot_kernel.proofs.Refusing.{event-done, missing-of, present-of, refused-event-reply, refused-event-state}
-use Rattle.lot_kernel.proofs.Holding.{held-records, makes-held}
 use Rattle.lot_kernel.proofs.tables.Tables.wake.Goals as goal
 
 pub returns-clause-stale : goal.returns-clause-stale

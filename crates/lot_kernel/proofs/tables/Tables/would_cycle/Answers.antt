@@ -1,5 +1,4 @@
-use Rattle.lot_kernel.proofs.Common.{Funding, IsCycle, IsTrue, ap, funding_in, funding_of, subst, the_view, ◌↔◌}
-use Rattle.lot_kernel.proofs.Commanding.{cycle-tested, ticket-with}
+use Rattle.lot_kernel.proofs.Lemmas.{Funding, IsCycle, IsTrue, ap, cycle-tested, funding_in, funding_of, subst, the_view, ticket-with, ◌↔◌}
 use Rattle.lot_kernel.proofs.tables.Tables.would_cycle.Goals as goal
 
 pub returns-clause-cycle : goal.returns-clause-cycle

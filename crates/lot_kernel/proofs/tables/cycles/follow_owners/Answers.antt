@@ -1,6 +1,4 @@
-use Rattle.lot_kernel.proofs.Common.{None, ap, arith, false, is_some, length, mutex_at, refl, subst, suc, sym, true, ◌+◌, ◌<◌, ◌∙◌, ◌≡◌, ◌≢◌}
-use Rattle.lot_kernel.proofs.Cutting.{DoFollow, follow-freed, follow-other, follow-start, followed}
-use Rattle.lot_kernel.proofs.Refusing.{no-record}
+use Rattle.lot_kernel.proofs.Lemmas.{DoFollow, None, ap, arith, false, follow-freed, follow-other, follow-start, followed, is_some, length, mutex_at, no-record, refl, subst, suc, sym, true, ◌+◌, ◌<◌, ◌∙◌, ◌≡◌, ◌≢◌}
 use Rattle.lot_kernel.proofs.tables.cycles.follow_owners.Goals as goal
 use Rattle.lot_kernel.proofs.tables.cycles.follow_owners.Goals.{then-is_none, else-is_none}
 

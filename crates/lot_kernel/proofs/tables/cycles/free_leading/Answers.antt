@@ -1,6 +1,4 @@
-use Rattle.lot_kernel.proofs.Common.{Bool, Threaded, ap, arith, funding_in, lends_lead, length, mutex_at, option_any, range_with_len, subst, sym, unserved, ℕ, ◌+◌, ◌-◌, ◌<◌, ◌∙◌, ◌≡◌}
-use Rattle.lot_kernel.proofs.Cutting.{AreFreed, freed-mine, freed-other}
-use Rattle.lot_kernel.proofs.Serving.{holders-next, holders_from}
+use Rattle.lot_kernel.proofs.Lemmas.{AreFreed, Bool, Threaded, ap, arith, freed-mine, freed-other, funding_in, holders-next, holders_from, lends_lead, length, mutex_at, option_any, range_with_len, subst, sym, unserved, ℕ, ◌+◌, ◌-◌, ◌<◌, ◌∙◌, ◌≡◌}
 use Rattle.lot_kernel.proofs.tables.cycles.free_leading.Goals as goal
 use Rattle.lot_kernel.proofs.tables.cycles.free_leading.Goals.{then-does_lead, else-does_lead}
 

@@ -1,7 +1,5 @@
 -- the owners from the place on are to be looked at, and nothing but owners has changed
-use Rattle.lot_kernel.proofs.Common.{funding_in, lends_lead, length, range_with_len, unserved, ◌+◌, ◌-◌, ◌≡◌, ◌≤◌}
-use Rattle.lot_kernel.proofs.Cutting.{AreFreed}
-use Rattle.lot_kernel.proofs.Serving.{holders_from}
+use Rattle.lot_kernel.proofs.Lemmas.{AreFreed, funding_in, holders_from, lends_lead, length, range_with_len, unserved, ◌+◌, ◌-◌, ◌≡◌, ◌≤◌}
 use Rattle.lot_kernel.proofs.tables.cycles.free_leading.Given as goal
 
 abbrev pub invariant-loop-place : goal.invariant-loop-place

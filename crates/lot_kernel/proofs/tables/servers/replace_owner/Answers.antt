@@ -1,5 +1,4 @@
-use Rattle.lot_kernel.proofs.Common.{IfSome, IsLiveIn, Option, ap, set_number, subst, sym, ℕ, ◌∙◌}
-use Rattle.lot_kernel.proofs.Serving.{may-own, replaced, replaced-stale}
+use Rattle.lot_kernel.proofs.Lemmas.{IfSome, IsLiveIn, Option, ap, may-own, replaced, replaced-stale, set_number, subst, sym, ℕ, ◌∙◌}
 use Rattle.lot_kernel.proofs.tables.servers.replace_owner.Goals as goal
 
 pub apply-requires-2-clause-allowed : goal.apply-requires-2-clause-allowed

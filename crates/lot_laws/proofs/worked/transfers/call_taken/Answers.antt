@@ -1,5 +1,4 @@
-use Rattle.std.proofs.Common.{false, refl}
-use Rattle.lot_laws.proofs.WaitingServer.{owns-nothing}
+use Rattle.lot_laws.proofs.Lemmas.{false, owns-nothing, refl}
 use Rattle.lot_laws.proofs.worked.transfers.call_taken.Goals as goal
 
 pub returns-clause-takes : goal.returns-clause-takes

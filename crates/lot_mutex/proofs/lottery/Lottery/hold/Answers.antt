@@ -1,11 +1,5 @@
-use Rattle.std.proofs.Common.{◌≡◌, ◌∙◌, ◌<◌, ◌^◌, map, sum, ap, sym, subst, arith}
-use Rattle.std.specs.List.{All}
-use Rattle.std.specs.Option.{IfSome}
-use Rattle.lot_machine.specs.declared.drawn.Drawn.{Drawn}
+use Rattle.lot_mutex.proofs.Lemmas.{All, Drawn, IfSome, IsThreadOf, Listed, ap, arith, drawn-small, map, none-wins, settled-fresh, subst, sum, sym, waiters-there, worth_in, worths-little, ◌<◌, ◌^◌, ◌∙◌, ◌≡◌}
 use Rattle.lot_machine.specs.declared.funding.Node.TheVariants.{Mutex}
-use Rattle.lot_threads.specs.Threaded.{IsThreadOf, worth_in}
-use Rattle.lot_mutex.specs.Listed.{Listed}
-use Rattle.lot_mutex.proofs.Worths.{worths-little, waiters-there, settled-fresh, none-wins, drawn-small}
 use Rattle.lot_mutex.proofs.lottery.Lottery.hold.Goals as goal
 
 pub returns-then-value_of-eq0-clause-drawn : goal.returns-then-value_of-eq0-clause-drawn

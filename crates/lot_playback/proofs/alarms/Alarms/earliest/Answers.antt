@@ -1,5 +1,4 @@
-use Rattle.lot_playback.proofs.Common.{alarm_at, alarms_in, ap, arith, earliest, flat_map, range_with_len, sooner_of, [], ◌∙◌, ◌≡◌}
-use Rattle.lot_playback.proofs.TimeFacts.{earliest-more}
+use Rattle.lot_playback.proofs.Lemmas.{alarm_at, alarms_in, ap, arith, earliest, earliest-more, flat_map, range_with_len, sooner_of, [], ◌∙◌, ◌≡◌}
 use Rattle.lot_playback.proofs.alarms.Alarms.earliest.Goals as goal
 
 pub loop-place-preserved : goal.loop-place-preserved

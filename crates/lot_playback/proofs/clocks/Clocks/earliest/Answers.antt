@@ -1,5 +1,4 @@
-use Rattle.lot_playback.proofs.Common.{Sizes, alarms_in, ap, append-nil, append_assoc, arith, console_due, earliest, flat_map, moment_of, processor_due, processors_due, range_with_len, sooner_of, sym, timer_due, ◌++◌, ◌∙◌, ◌≡◌}
-use Rattle.lot_playback.proofs.TimeFacts.{earliest-both, earliest-more}
+use Rattle.lot_playback.proofs.Lemmas.{Sizes, alarms_in, ap, append-nil, append_assoc, arith, console_due, earliest, earliest-both, earliest-more, flat_map, moment_of, processor_due, processors_due, range_with_len, sooner_of, sym, timer_due, ◌++◌, ◌∙◌, ◌≡◌}
 use Rattle.lot_playback.proofs.clocks.Clocks.earliest.Goals as goal
 
 pub loop-place-init : goal.loop-place-init

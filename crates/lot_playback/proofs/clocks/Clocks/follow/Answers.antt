@@ -1,5 +1,4 @@
-use Rattle.lot_playback.proofs.Common.{Clock, HaveIdled, ap, arith, clock_of, subst, sym, ◌+◌, ◌≡◌}
-use Rattle.lot_playback.proofs.TimeFacts.{all-set, clock-idled, idled-longer}
+use Rattle.lot_playback.proofs.Lemmas.{Clock, HaveIdled, all-set, ap, arith, clock-idled, clock_of, idled-longer, subst, sym, ◌+◌, ◌≡◌}
 use Rattle.lot_playback.proofs.clocks.Clocks.follow.Goals as goal
 use Rattle.lot_playback.proofs.clocks.Clocks.follow.Goals.{then-not-waits-2, else-not-waits-2}
 

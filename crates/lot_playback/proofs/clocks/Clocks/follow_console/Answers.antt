@@ -1,5 +1,4 @@
-use Rattle.lot_playback.proofs.Common.{Bool, Clock, HaveIdled, List, State, ap, arith, clock_after_console, clock_of, clocks_after_console, drop, get_or, idle_to, if◌then◌else◌, is_none, length, map, range_with_len, set, subst, sym, thread_on, world_of, ◌++◌, ◌+◌, ◌<◌, ◌||◌, ◌∙◌, ◌≡◌}
-use Rattle.lot_playback.proofs.TimeFacts.{clock-at, console-idled, set-all, set-at, set-length, set-more}
+use Rattle.lot_playback.proofs.Lemmas.{Bool, Clock, HaveIdled, List, State, ap, arith, clock-at, clock_after_console, clock_of, clocks_after_console, console-idled, drop, get_or, idle_to, if◌then◌else◌, is_none, length, map, range_with_len, set, set-all, set-at, set-length, set-more, subst, sym, thread_on, world_of, ◌++◌, ◌+◌, ◌<◌, ◌||◌, ◌∙◌, ◌≡◌}
 use Rattle.lot_playback.proofs.clocks.Clocks.follow_console.Goals as goal
 
 pub after_console-requires : goal.after_console-requires

@@ -1,5 +1,4 @@
-use Rattle.lot_playback.proofs.Common.{Some, ap, moment_of, ◌∙◌}
-use Rattle.lot_playback.proofs.TimeFacts.{processor-first}
+use Rattle.lot_playback.proofs.Lemmas.{Some, ap, moment_of, processor-first, ◌∙◌}
 use Rattle.lot_playback.proofs.clocks.Clocks.processor_due.Goals as goal
 
 pub returns : goal.returns

@@ -1,5 +1,4 @@
-use Rattle.lot_playback.proofs.Common.{Clock, HaveIdled, List, ap, arith, drop, get_or, length, map, set, subst, sym, take, woken, ◌++◌, ◌+◌, ◌∙◌, ◌≡◌}
-use Rattle.lot_playback.proofs.TimeFacts.{all-woken, turned-at, turned-more, turned-all, turned-length}
+use Rattle.lot_playback.proofs.Lemmas.{Clock, HaveIdled, List, all-woken, ap, arith, drop, get_or, length, map, set, subst, sym, take, turned-all, turned-at, turned-length, turned-more, woken, ◌++◌, ◌+◌, ◌∙◌, ◌≡◌}
 use Rattle.lot_playback.proofs.clocks.Clocks.wake.Goals as goal
 
 pub woken-requires : goal.woken-requires

@@ -1,5 +1,5 @@
-use Rattle.lot_playback.proofs.Common.{FoundNodes, HasFound, HaveAdded, arith, false, get_or_default, length, set, slice_index, subst, sym, true, ◌+◌, ◌<◌, ◌∙◌, ◌≡◌}
-use Rattle.lot_playback.proofs.TickFacts.{one-added, one-passed}
+use Rattle.lot_playback.proofs.Lemmas.{FoundNodes, HasFound, HaveAdded, arith, false, get_or_default, length, one-added, set, slice_index, subst, sym, true, ◌+◌, ◌<◌, ◌∙◌, ◌≡◌}
+use Rattle.lot_playback.proofs.TickFacts.{one-passed}
 use Rattle.lot_playback.proofs.currencies.CurrencyTable.add.Goals as goal
 use Rattle.lot_playback.proofs.currencies.CurrencyTable.add.Goals.{then-has, else-has}
 

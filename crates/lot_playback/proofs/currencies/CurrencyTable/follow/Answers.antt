@@ -1,5 +1,4 @@
-use Rattle.lot_playback.proofs.Common.{AreDue, Currencies, CurrencyTable, DueTable, HaveAdded, Seen, ap, arith, length, subst, sym, ticks_in, world_of, [], ◌++◌, ◌+◌, ◌-◌, ◌∙◌, ◌∷◌, ◌≡◌}
-use Rattle.lot_playback.proofs.TickFacts.{currencies-more, have-run}
+use Rattle.lot_playback.proofs.Lemmas.{AreDue, Currencies, CurrencyTable, DueTable, HaveAdded, Seen, ap, arith, currencies-more, have-run, length, subst, sym, ticks_in, world_of, [], ◌++◌, ◌+◌, ◌-◌, ◌∙◌, ◌∷◌, ◌≡◌}
 use Rattle.lot_playback.proofs.currencies.CurrencyTable.follow.Goals as goal
 
 pub returns-clause-exact : goal.returns-clause-exact

@@ -1,5 +1,4 @@
-use Rattle.lot_playback.proofs.Common.{HasFound, IsTrue, some-injective, stands_below, subst, sym, world_of, ◌↔◌, ◌∙◌}
-use Rattle.lot_playback.proofs.TickFacts.{runner-there}
+use Rattle.lot_playback.proofs.Lemmas.{HasFound, IsTrue, runner-there, some-injective, stands_below, subst, sym, world_of, ◌↔◌, ◌∙◌}
 use Rattle.lot_playback.proofs.currencies.CurrencyTable.look.Goals as goal
 
 pub find_above-requires-clause-thread : goal.find_above-requires-clause-thread

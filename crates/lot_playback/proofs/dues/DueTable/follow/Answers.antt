@@ -1,6 +1,4 @@
-use Rattle.lot_playback.proofs.Common.{Answered, AreOwed, DueTable, HaveValues, List, Owing, Sharers, World, ap, arith, length, parts_before, rate_in, subst, sym, value_in, whole_in, world_of, ℕ, ◌+◌, ◌-◌, ◌<◌, ◌^◌, ◌∙◌, ◌≡◌}
-use Rattle.lot_playback.proofs.DueFacts.{HasPassed, dues-changed, dues-kept, few-values, owed-then, then_due}
-use Rattle.lot_playback.proofs.WorthFacts.{run-sound}
+use Rattle.lot_playback.proofs.Lemmas.{Answered, AreOwed, DueTable, HasPassed, HaveValues, List, Owing, Sharers, World, ap, arith, dues-changed, dues-kept, few-values, length, owed-then, parts_before, rate_in, run-sound, subst, sym, then_due, value_in, whole_in, world_of, ℕ, ◌+◌, ◌-◌, ◌<◌, ◌^◌, ◌∙◌, ◌≡◌}
 use Rattle.lot_playback.proofs.dues.DueTable.follow.Goals as goal
 
 pub pass-requires : goal.pass-requires

@@ -1,5 +1,4 @@
-use Rattle.std.proofs.Common.{◌-◌, arith}
-use Rattle.lot_playback.proofs.DueFacts.{forget-none, forget-one, forget-value}
+use Rattle.lot_playback.proofs.Lemmas.{arith, forget-none, forget-one, forget-value, ◌-◌}
 use Rattle.lot_playback.proofs.dues.DueTable.forget.Goals as goal
 use Rattle.lot_playback.proofs.dues.DueTable.forget.Goals.{then-number-eq0-via-then-number-eq0, then-number-eq0-via-else-number-eq0+then-len-number}
 

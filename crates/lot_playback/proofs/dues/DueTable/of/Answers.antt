@@ -1,5 +1,4 @@
-use Rattle.lot_playback.proofs.Common.{arith, due_to}
-use Rattle.lot_playback.proofs.DueFacts.{owed-at}
+use Rattle.lot_playback.proofs.Lemmas.{arith, due_to, owed-at}
 use Rattle.lot_playback.proofs.dues.DueTable.of.Goals as goal
 
 pub returns-clause-due : goal.returns-clause-due

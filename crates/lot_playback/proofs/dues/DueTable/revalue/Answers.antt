@@ -1,5 +1,4 @@
-use Rattle.lot_playback.proofs.Common.{IsOwed, Seen, ap, arith, length, set, subst, sym, value_in, world_of, ◌+◌, ◌<◌, ◌∙◌, ◌≡◌}
-use Rattle.lot_playback.proofs.DueFacts.{HaveTaken, one-taken}
+use Rattle.lot_playback.proofs.Lemmas.{HaveTaken, IsOwed, Seen, ap, arith, length, one-taken, set, subst, sym, value_in, world_of, ◌+◌, ◌<◌, ◌∙◌, ◌≡◌}
 use Rattle.lot_playback.proofs.dues.DueTable.revalue.Goals as goal
 
 pub parts_of-requires : goal.parts_of-requires

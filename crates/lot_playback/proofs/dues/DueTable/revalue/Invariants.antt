@@ -1,5 +1,4 @@
-use Rattle.lot_playback.proofs.Common.{value_in, whole_in, world_of, ◌≡◌}
-use Rattle.lot_playback.proofs.DueFacts.{HaveTaken}
+use Rattle.lot_playback.proofs.Lemmas.{HaveTaken, value_in, whole_in, world_of, ◌≡◌}
 use Rattle.lot_playback.proofs.dues.DueTable.revalue.Given as goal
 
 -- those passed so far have their new values, and what is due stays

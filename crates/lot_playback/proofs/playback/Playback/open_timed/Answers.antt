@@ -1,5 +1,4 @@
-use Rattle.lot_playback.proofs.Common.{IsFollowed, IsSome, Seen, ap, subst, sym}
-use Rattle.lot_playback.proofs.FollowFacts.{opened-followed}
+use Rattle.lot_playback.proofs.Lemmas.{IsFollowed, IsSome, Seen, ap, opened-followed, subst, sym}
 use Rattle.lot_playback.proofs.playback.Playback.open_timed.Goals as goal
 
 pub invariant_of-result : goal.invariant_of-result

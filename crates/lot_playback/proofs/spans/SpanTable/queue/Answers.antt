@@ -1,5 +1,4 @@
-use Rattle.lot_playback.proofs.Common.{Answered, sym, world_of, ◌∙◌}
-use Rattle.lot_playback.proofs.DueFacts.{all-queued, dispatch-none, dispatch-one, few-at, few-forgotten, none-beyond}
+use Rattle.lot_playback.proofs.Lemmas.{Answered, all-queued, dispatch-none, dispatch-one, few-at, few-forgotten, none-beyond, sym, world_of, ◌∙◌}
 use Rattle.lot_playback.proofs.spans.SpanTable.queue.Goals as goal
 
 pub queue_all-requires-clause-few : goal.queue_all-requires-clause-few

@@ -1,5 +1,4 @@
-use Rattle.lot_playback.proofs.Common.{arith, cases_lt, inl, inr, length, queued, slice_index_or, status_of, sym, world_of, ◌+◌, ◌<◌, ◌∙◌, ◌≡◌, ◌≤◌, ◌⊎◌}
-use Rattle.lot_playback.proofs.DueFacts.{beyond-stays, none-passed, one-passed}
+use Rattle.lot_playback.proofs.Lemmas.{arith, beyond-stays, cases_lt, inl, inr, length, none-passed, one-passed, queued, slice_index_or, status_of, sym, world_of, ◌+◌, ◌<◌, ◌∙◌, ◌≡◌, ◌≤◌, ◌⊎◌}
 use Rattle.lot_playback.proofs.spans.SpanTable.queue_all.Goals as goal
 
 pub loop-place-init : goal.loop-place-init

@@ -1,5 +1,4 @@
-use Rattle.lot_engine.specs.Seen.{world_of}
-use Rattle.lot_playback.proofs.DueFacts.{HavePassed}
+use Rattle.lot_playback.proofs.Lemmas.{HavePassed, world_of}
 use Rattle.lot_playback.proofs.spans.SpanTable.queue_all.Given as goal
 
 -- the threads passed so far have the waits after the turn

@@ -1,5 +1,4 @@
-use Rattle.lot_playback.proofs.Common.{ap, arith, queued, world_of, ◌∙◌}
-use Rattle.lot_playback.proofs.DueFacts.{one-queued}
+use Rattle.lot_playback.proofs.Lemmas.{ap, arith, one-queued, queued, world_of, ◌∙◌}
 use Rattle.lot_playback.proofs.spans.SpanTable.queue_thread.Goals as goal
 
 pub returns : goal.returns

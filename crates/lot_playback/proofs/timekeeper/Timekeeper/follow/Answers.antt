@@ -1,7 +1,4 @@
-use Rattle.lot_playback.proofs.Common.{Answered, Answers, AreAlarms, AreCurrencies, CanFollow, HasLayoutFor, Seen, Threads, World, ap, arith, clocks_after, get_or_default, is_idle_draw, length, life, life_change, mutex_change, mutex_wait, reply_change, reply_wait, subst, sym, vec_len, world_of, [], ◌++◌, ◌+◌, ◌||◌, ◌∙◌, ◌∷◌, ◌≡◌, ◌≤◌}
-use Rattle.lot_playback.proofs.DueFacts.{few-waits, waits-more}
-use Rattle.lot_playback.proofs.FollowFacts.{refusals-more}
-use Rattle.lot_playback.proofs.RefusedTrapFacts.{traps-more}
+use Rattle.lot_playback.proofs.Lemmas.{Answered, Answers, AreAlarms, AreCurrencies, CanFollow, HasLayoutFor, Seen, Threads, World, ap, arith, clocks_after, few-waits, get_or_default, is_idle_draw, length, life, life_change, mutex_change, mutex_wait, refusals-more, reply_change, reply_wait, subst, sym, traps-more, vec_len, waits-more, world_of, [], ◌++◌, ◌+◌, ◌||◌, ◌∙◌, ◌∷◌, ◌≡◌, ◌≤◌}
 use Rattle.lot_playback.proofs.timekeeper.Timekeeper.follow.Goals as goal
 
 pub returns-clause-same : goal.returns-clause-same

@@ -1,5 +1,4 @@
-use Rattle.lot_playback.proofs.Common.{IsNextAlarm, Program, ap, arith, subst}
-use Rattle.lot_playback.proofs.AlarmFacts.{next-alarm}
+use Rattle.lot_playback.proofs.Lemmas.{IsNextAlarm, Program, ap, arith, next-alarm, subst}
 use Rattle.lot_playback.proofs.timekeeper.Timekeeper.following.Goals as goal
 
 pub following-requires-clause-clocks : goal.following-requires-clause-clocks

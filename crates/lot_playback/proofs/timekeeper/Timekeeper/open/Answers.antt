@@ -1,7 +1,4 @@
-use Rattle.lot_playback.proofs.Common.{Clock, HasLayoutFor, HaveIdled, None, Program, Sizes, ap, arith, false, length, length-replicate, life_change, mutex_change, refl, replicate, reply_change, subst, sym, ◌∙◌, ◌≡◌}
-use Rattle.lot_playback.proofs.AlarmFacts.{none-sleeping}
-use Rattle.lot_playback.proofs.FollowFacts.{if-ok-none}
-use Rattle.lot_playback.proofs.TimeFacts.{none-idled}
+use Rattle.lot_playback.proofs.Lemmas.{Clock, HasLayoutFor, HaveIdled, None, Program, Sizes, ap, arith, false, if-ok-none, length, length-replicate, life_change, mutex_change, none-idled, none-sleeping, refl, replicate, reply_change, subst, sym, ◌∙◌, ◌≡◌}
 use Rattle.lot_playback.proofs.timekeeper.Timekeeper.open.Goals as goal
 
 pub returns-in_err-clocks-clause-opened : goal.returns-in_err-clocks-clause-opened

@@ -1,5 +1,4 @@
-use Rattle.std.proofs.Common.{arith}
-use Rattle.lot_print.proofs.Pairs.{last_pairs}
+use Rattle.lot_print.proofs.Lemmas.{arith, last_pairs}
 use Rattle.lot_print.proofs.line.Line.push_long.Goals as goal
 
 pub returns-clause-text : goal.returns-clause-text

@@ -1,5 +1,4 @@
-use Rattle.std.proofs.Common.{◌≡◌, ◌∙◌, ◌++◌, ◌∷◌, [], List, ℕ, ap, append_assoc}
-use Rattle.lot_print.proofs.Pairs.{PAIRS_at}
+use Rattle.lot_print.proofs.Lemmas.{List, PAIRS_at, ap, append_assoc, ℕ, [], ◌++◌, ◌∙◌, ◌∷◌, ◌≡◌}
 use Rattle.lot_print.proofs.line.Line.push_pair.Goals as goal
 
 -- one byte after another

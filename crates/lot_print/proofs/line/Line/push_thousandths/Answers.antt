@@ -1,8 +1,4 @@
-use Rattle.std.proofs.Common.{◌≡◌, ◌≢◌, ◌<◌, ◌∙◌, ◌+◌, ◌/◌, ◌%◌, ◌++◌, ◌∷◌, [], ℕ, refl, ap, sym, arith}
-use Rattle.std.proofs.lemmas.Bool.{ne_eqb}
-use Rattle.std.proofs.lemmas.Fmt.{decimal_digit}
-use Rattle.lot_simulation.specs.Texts.{behind_point}
-use Rattle.lot_print.proofs.Pairs.{parts}
+use Rattle.lot_print.proofs.Lemmas.{ap, arith, behind_point, decimal_digit, ne_eqb, parts, refl, sym, ℕ, [], ◌%◌, ◌++◌, ◌+◌, ◌/◌, ◌<◌, ◌∙◌, ◌∷◌, ◌≡◌, ◌≢◌}
 use Rattle.lot_print.proofs.line.Line.push_thousandths.Goals as goal
 
 -- one, two or three digits behind the point

@@ -1,5 +1,4 @@
-use Rattle.std.proofs.Common.{arith}
-use Rattle.lot_print.proofs.Pairs.{last_pair}
+use Rattle.lot_print.proofs.Lemmas.{arith, last_pair}
 use Rattle.lot_print.proofs.line.Line.push_three_or_four.Goals as goal
 
 pub returns-clause-text : goal.returns-clause-text

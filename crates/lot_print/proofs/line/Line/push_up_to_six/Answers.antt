@@ -1,5 +1,4 @@
-use Rattle.std.proofs.Common.{arith}
-use Rattle.lot_print.proofs.Pairs.{last_pair}
+use Rattle.lot_print.proofs.Lemmas.{arith, last_pair}
 use Rattle.lot_print.proofs.line.Line.push_up_to_six.Goals as goal
 
 pub returns-else-number-lt100-clause-text : goal.returns-else-number-lt100-clause-text

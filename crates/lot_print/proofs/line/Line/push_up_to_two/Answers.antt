@@ -1,6 +1,4 @@
-use Rattle.std.proofs.Common.{◌∙◌, ◌++◌, ap, sym}
-use Rattle.std.proofs.lemmas.Fmt.{decimal_digit}
-use Rattle.itoa.proofs.Decimal.{decimal_two}
+use Rattle.lot_print.proofs.Common.{ap, decimal_digit, decimal_two, sym, ◌++◌, ◌∙◌}
 use Rattle.lot_print.proofs.line.Line.push_up_to_two.Goals as goal
 
 pub returns-then-number-lt10-clause-text : goal.returns-then-number-lt10-clause-text

@@ -1,10 +1,5 @@
 -- The list keeps its commands while the pool grows.
-use Rattle.std.proofs.Common.{ap, ◌∙◌, List, ◌++◌, ◌∷◌, [], map}
-use Rattle.std.proofs.lemmas.List.Elements.{All-push, All-same}
-use Rattle.std.proofs.lemmas.Result.{IfOk-from_err, err_from_is_err_and}
-use Rattle.lot_machine.specs.declared.command.Command.{Command}
-use Rattle.lot_program.specs.Packed.{IsCommandIn, command_in}
-use Rattle.lot_program.proofs.PackedLemmas.{commands-added, commands-in, commands-kept}
+use Rattle.lot_program.proofs.Lemmas.{All-push, All-same, Command, IfOk-from_err, IsCommandIn, List, ap, command_in, commands-added, commands-in, commands-kept, err_from_is_err_and, map, [], ◌++◌, ◌∙◌, ◌∷◌}
 use Rattle.lot_program.proofs.commands.CommandList.push.Goals as goal
 
 pub returns-in_err-packed-clause-kept : goal.returns-in_err-packed-clause-kept

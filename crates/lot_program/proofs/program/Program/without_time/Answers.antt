@@ -1,8 +1,4 @@
-use Rattle.std.proofs.Common.{◌≡◌, ◌∙◌, ap, length, map, sym}
-use Rattle.std.proofs.lemmas.List.{length-map}
-use Rattle.std.proofs.lemmas.Result.{IfOk-from_err}
-use Rattle.lot_simulation.specs.Script.{without_sleep}
-use Rattle.lot_simulation.specs.World.{Program}
+use Rattle.lot_program.proofs.Common.{IfOk-from_err, Program, ap, length, length-map, map, sym, without_sleep, ◌∙◌, ◌≡◌}
 use Rattle.lot_program.proofs.program.Program.without_time.Goals as goal
 
 pub returns-in_err-copy : goal.returns-in_err-copy

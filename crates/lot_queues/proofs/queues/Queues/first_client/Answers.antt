@@ -1,5 +1,4 @@
-use Rattle.lot_queues.proofs.Holds.{opened, clients-below, clients-are}
-use Rattle.lot_queues.proofs.Taken.{fits, first-thread}
+use Rattle.lot_queues.proofs.Lemmas.{clients-are, clients-below, first-thread, fits, opened}
 use Rattle.lot_queues.proofs.queues.Queues.first_client.Goals as goal
 
 pub first-requires : goal.first-requires

@@ -1,5 +1,4 @@
-use Rattle.lot_queues.proofs.Holds.{opened, waiters-below, waiters-are}
-use Rattle.lot_queues.proofs.Taken.{fits, first-thread, first-there}
+use Rattle.lot_queues.proofs.Lemmas.{first-there, first-thread, fits, opened, waiters-are, waiters-below}
 use Rattle.lot_queues.proofs.queues.Queues.first_waiter.Goals as goal
 
 pub first-requires : goal.first-requires

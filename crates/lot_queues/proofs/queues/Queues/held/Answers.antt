@@ -1,5 +1,4 @@
-use Rattle.std.proofs.Common.{arith}
-use Rattle.lot_queues.proofs.Holds.{opened, room-is, ports-are, mutexes-are}
+use Rattle.lot_queues.proofs.Lemmas.{arith, mutexes-are, opened, ports-are, room-is}
 use Rattle.lot_queues.proofs.queues.Queues.held.Goals as goal
 
 pub returns : goal.returns

@@ -1,5 +1,4 @@
-use Rattle.lot_queues.proofs.Holds.{opened, node-below}
-use Rattle.lot_queues.proofs.Taken.{nowhere-test}
+use Rattle.lot_queues.proofs.Lemmas.{node-below, nowhere-test, opened}
 use Rattle.lot_queues.proofs.queues.Queues.is_nowhere.Goals as goal
 
 pub list_of-requires : goal.list_of-requires

@@ -1,6 +1,4 @@
-use Rattle.std.proofs.Common.{arith, ap, sym, ◌∙◌}
-use Rattle.lot_queues.specs.Fields.{threads_in}
-use Rattle.lot_queues.proofs.Holds.{opened, waiters-below, waiters-are, room-is}
+use Rattle.lot_queues.proofs.Lemmas.{ap, arith, opened, room-is, sym, threads_in, waiters-are, waiters-below, ◌∙◌}
 use Rattle.lot_queues.proofs.queues.Queues.list_waiters.Goals as goal
 
 pub list_threads-requires-clause-list : goal.list_threads-requires-clause-list

@@ -1,6 +1,4 @@
-use Rattle.std.proofs.Common.{◌≡◌, ◌∙◌, ap, None, replicate}
-use Rattle.lot_lists.specs.NodeLists.{empty_lists}
-use Rattle.lot_queues.proofs.Holds.{start}
+use Rattle.lot_queues.proofs.Lemmas.{None, ap, empty_lists, replicate, start, ◌∙◌, ◌≡◌}
 use Rattle.lot_queues.proofs.queues.Queues.new.Goals as goal
 
 pub invariant_of-result : goal.invariant_of-result

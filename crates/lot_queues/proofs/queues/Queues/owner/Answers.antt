@@ -1,6 +1,4 @@
-use Rattle.std.proofs.Common.{arith, None, ◌∙◌, sym}
-use Rattle.std.proofs.lemmas.List.{get_or_default}
-use Rattle.lot_queues.proofs.Holds.{opened, in-mutexes, owner-is}
+use Rattle.lot_queues.proofs.Lemmas.{None, arith, get_or_default, in-mutexes, opened, owner-is, sym, ◌∙◌}
 use Rattle.lot_queues.proofs.queues.Queues.owner.Goals as goal
 
 pub index-requires : goal.index-requires

@@ -1,5 +1,4 @@
-use Rattle.std.proofs.Common.{◌∙◌}
-use Rattle.lot_queues.proofs.Holds.{opened, owners-are}
+use Rattle.lot_queues.proofs.Lemmas.{opened, owners-are, ◌∙◌}
 use Rattle.lot_queues.proofs.queues.Queues.owners.Goals as goal
 
 pub returns : goal.returns

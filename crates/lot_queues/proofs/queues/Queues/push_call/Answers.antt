@@ -1,5 +1,4 @@
-use Rattle.lot_queues.proofs.Holds.{opened, calls-below, node-below, free}
-use Rattle.lot_queues.proofs.Pushed.{push-call}
+use Rattle.lot_queues.proofs.Lemmas.{calls-below, free, node-below, opened, push-call}
 use Rattle.lot_queues.proofs.queues.Queues.push_call.Goals as goal
 
 pub push_back-requires-clause-list_exists : goal.push_back-requires-clause-list_exists

@@ -1,5 +1,4 @@
-use Rattle.lot_queues.proofs.Holds.{opened, clients-below, node-below, free}
-use Rattle.lot_queues.proofs.Pushed.{push-client}
+use Rattle.lot_queues.proofs.Lemmas.{clients-below, free, node-below, opened, push-client}
 use Rattle.lot_queues.proofs.queues.Queues.push_client.Goals as goal
 
 pub push_back-requires-clause-list_exists : goal.push_back-requires-clause-list_exists

@@ -1,5 +1,4 @@
-use Rattle.lot_queues.proofs.Holds.{opened, receivers-below, node-below, free}
-use Rattle.lot_queues.proofs.Pushed.{push-receiver}
+use Rattle.lot_queues.proofs.Lemmas.{free, node-below, opened, push-receiver, receivers-below}
 use Rattle.lot_queues.proofs.queues.Queues.push_receiver.Goals as goal
 
 pub push_back-requires-clause-list_exists : goal.push_back-requires-clause-list_exists

@@ -1,5 +1,4 @@
-use Rattle.lot_queues.proofs.Holds.{opened, waiters-below, node-below, free}
-use Rattle.lot_queues.proofs.Pushed.{push-waiter}
+use Rattle.lot_queues.proofs.Lemmas.{free, node-below, opened, push-waiter, waiters-below}
 use Rattle.lot_queues.proofs.queues.Queues.push_waiter.Goals as goal
 
 pub push_back-requires-clause-list_exists : goal.push_back-requires-clause-list_exists

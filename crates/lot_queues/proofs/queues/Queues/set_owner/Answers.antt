@@ -1,5 +1,4 @@
-use Rattle.std.proofs.Common.{arith}
-use Rattle.lot_queues.proofs.Holds.{opened, in-mutexes, set-owner}
+use Rattle.lot_queues.proofs.Lemmas.{arith, in-mutexes, opened, set-owner}
 use Rattle.lot_queues.proofs.queues.Queues.set_owner.Goals as goal
 
 pub index_mut-requires : goal.index_mut-requires

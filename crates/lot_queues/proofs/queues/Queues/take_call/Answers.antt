@@ -1,5 +1,4 @@
-use Rattle.lot_queues.proofs.Holds.{itself, opened, calls-below, calls-are}
-use Rattle.lot_queues.proofs.Taken.{fits, has-sent, caller-there, caller-nowhere, first-call, first-within, others-nowhere, take-call}
+use Rattle.lot_queues.proofs.Lemmas.{caller-nowhere, caller-there, calls-are, calls-below, first-call, first-within, fits, has-sent, itself, opened, others-nowhere, take-call}
 use Rattle.lot_queues.proofs.queues.Queues.take_call.Goals as goal
 
 pub take_first-node-requires : goal.take_first-node-requires

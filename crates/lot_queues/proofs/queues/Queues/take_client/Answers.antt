@@ -1,6 +1,4 @@
-use Rattle.lot_queues.proofs.FirstTaken.{first-taken}
-use Rattle.lot_queues.proofs.Holds.{opened, clients-below, clients-are}
-use Rattle.lot_queues.proofs.Taken.{fits, first-thread, take-client}
+use Rattle.lot_queues.proofs.Lemmas.{clients-are, clients-below, first-taken, first-thread, fits, opened, take-client}
 use Rattle.lot_queues.proofs.queues.Queues.take_client.Goals as goal
 
 pub take_first-node-requires : goal.take_first-node-requires

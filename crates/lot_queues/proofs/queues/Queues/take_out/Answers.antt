@@ -1,7 +1,4 @@
-use Rattle.std.proofs.Common.{arith}
-use Rattle.lot_queues.proofs.Nowhere.{away-to}
-use Rattle.lot_queues.proofs.Holds.{opened, itself, node-below, nowhere}
-use Rattle.lot_queues.proofs.TakenOut.{taken-out}
+use Rattle.lot_queues.proofs.Lemmas.{arith, away-to, itself, node-below, nowhere, opened, taken-out}
 use Rattle.lot_queues.proofs.queues.Queues.take_out.Goals as goal
 
 pub remove_listed-requires : goal.remove_listed-requires

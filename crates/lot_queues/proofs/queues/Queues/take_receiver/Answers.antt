@@ -1,6 +1,4 @@
-use Rattle.lot_queues.proofs.FirstTaken.{first-taken}
-use Rattle.lot_queues.proofs.Holds.{opened, receivers-below, receivers-are}
-use Rattle.lot_queues.proofs.Taken.{fits, first-thread, take-receiver}
+use Rattle.lot_queues.proofs.Lemmas.{first-taken, first-thread, fits, opened, receivers-are, receivers-below, take-receiver}
 use Rattle.lot_queues.proofs.queues.Queues.take_receiver.Goals as goal
 
 pub take_first-node-requires : goal.take_first-node-requires

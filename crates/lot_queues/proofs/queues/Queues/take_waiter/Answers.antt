@@ -1,8 +1,4 @@
-use Rattle.lot_queues.proofs.Holds.{itself, opened}
-use Rattle.lot_queues.proofs.Taken.{waiter-there, waiter-listed, take-waiter, taken-waiter, waiter-within, others-nowhere}
-use Rattle.lot_queues.proofs.Nowhere.{away-to}
-use Rattle.lot_queues.proofs.Holds.{there, nowhere}
-use Rattle.std.proofs.Common.{arith}
+use Rattle.lot_queues.proofs.Lemmas.{arith, away-to, itself, nowhere, opened, others-nowhere, take-waiter, taken-waiter, there, waiter-listed, waiter-there, waiter-within}
 use Rattle.lot_queues.proofs.queues.Queues.take_waiter.Goals as goal
 
 pub node_of-requires : goal.node_of-requires

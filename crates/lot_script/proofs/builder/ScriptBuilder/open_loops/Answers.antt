@@ -1,5 +1,4 @@
-use Rattle.std.proofs.Common.{arith}
-use Rattle.lot_script.proofs.Nesting.{count-most}
+use Rattle.lot_script.proofs.Lemmas.{arith, count-most}
 use Rattle.lot_script.proofs.builder.ScriptBuilder.open_loops.Goals as goal
 
 pub returns-clause-most : goal.returns-clause-most

@@ -1,5 +1,4 @@
-use Rattle.lot_script.specs.Drafts.{Draft}
-use Rattle.lot_script.proofs.Nesting.{IsDraft-pushed}
+use Rattle.lot_script.proofs.Lemmas.{Draft, IsDraft-pushed}
 use Rattle.lot_script.proofs.builder.ScriptBuilder.push.Goals as goal
 
 pub invariant_of-self-2 : goal.invariant_of-self-2

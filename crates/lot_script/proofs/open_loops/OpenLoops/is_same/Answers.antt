@@ -1,10 +1,4 @@
-use Rattle.std.proofs.Common.{◌≡◌, rules, Bool, List, ap, sym, ◌∙◌}
-use Rattle.std.specs.Prelude.{reverse, IsTrue}
-use Rattle.std.specs.Bool.{Decides}
-use Rattle.std.proofs.lemmas.List.{reverse-reverse}
-use Rattle.std.proofs.lemmas.Slice.Eq.{slice_eq-Decides}
-use Rattle.lot_script.specs.declared.open_loops.OpenLoop.{OpenLoop}
-use Rattle.lot_script.specs.contracts.open_loops.OpenLoopPartialEq.TheImpl.{eq-value}
+use Rattle.lot_script.proofs.Common.{Bool, Decides, IsTrue, List, OpenLoop, ap, eq-value, reverse, reverse-reverse, rules, slice_eq-Decides, sym, ◌∙◌, ◌≡◌}
 use Rattle.lot_script.proofs.open_loops.OpenLoops.is_same.Goals as goal
 
 -- `==` of two loops decides whether they are equal

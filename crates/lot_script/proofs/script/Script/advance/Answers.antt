@@ -1,9 +1,4 @@
-use Rattle.std.proofs.Common.{◌≡◌, Option, Some, List, sym, ◌∙◌}
-use Rattle.std.specs.Prelude.{slice_get}
-use Rattle.lot_simulation.specs.declared.script.ScriptLine.{ScriptLine}
-use Rattle.lot_script.specs.Drafts.{IsScript}
-use Rattle.lot_script.specs.Places.{Place, Fits, Stands}
-use Rattle.lot_script.proofs.Passed.{stands-within, MakesTrap-line, MakesTrap-exit}
+use Rattle.lot_script.proofs.Lemmas.{Fits, IsScript, List, MakesTrap-exit, MakesTrap-line, Option, Place, ScriptLine, Some, Stands, slice_get, stands-within, sym, ◌∙◌, ◌≡◌}
 use Rattle.lot_script.proofs.script.Script.advance.Goals as goal
 
 stands : (lines : List ScriptLine) (p : Place) (l : ScriptLine) (next : Option ScriptLine) → IsScript lines → Fits lines p → next ≡ slice_get lines p.line → next ≡ Some l → Stands lines p l

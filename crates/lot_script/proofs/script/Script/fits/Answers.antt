@@ -1,9 +1,4 @@
-use Rattle.std.proofs.Common.{◌≡◌, ◌<◌, List, length}
-use Rattle.lot_simulation.specs.declared.script.ScriptLine.{ScriptLine}
-use Rattle.lot_simulation.specs.Script.{unrolled}
-use Rattle.lot_script.specs.Drafts.{IsScript}
-use Rattle.lot_script.specs.Places.{Place, Fits, IsRestOf, rest_at}
-use Rattle.lot_script.proofs.Reached.{rest-there, some-there}
+use Rattle.lot_script.proofs.Lemmas.{Fits, IsRestOf, IsScript, List, Place, ScriptLine, length, rest-there, rest_at, some-there, unrolled, ◌<◌, ◌≡◌}
 use Rattle.lot_script.proofs.script.Script.fits.Goals as goal
 
 rest_of : (lines fields : List ScriptLine) (place : Place) → fields ≡ lines → IsScript fields → Fits lines place → IsRestOf (rest_at lines place) (unrolled lines)

@@ -1,7 +1,4 @@
-use Rattle.std.proofs.Common.{◌≡◌, rules}
-use Rattle.std.specs.Bool.{Decides}
-use Rattle.std.proofs.lemmas.Slice.Eq.{slice_eq-Decides}
-use Rattle.lot_simulation.specs.declared.script.ScriptLine.{ScriptLine}
+use Rattle.lot_script.proofs.Common.{Decides, ScriptLine, rules, slice_eq-Decides, ◌≡◌}
 use Rattle.lot_simulation.specs.contracts.script.ScriptLinePartialEq.TheImpl.{eq-value}
 use Rattle.lot_script.proofs.script.Script.is_same.Goals as goal
 

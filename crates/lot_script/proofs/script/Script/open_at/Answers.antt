@@ -1,10 +1,4 @@
-use Rattle.std.proofs.Common.{◌≡◌, ◌<◌, ◌≤◌, ◌+◌, ℕ, List, length, get_or, arith, sym, refl}
-use Rattle.std.proofs.lemmas.Option.{slice_get_read}
-use Rattle.lot_simulation.specs.declared.script.ScriptLine.{ScriptLine}
-use Rattle.lot_script.specs.declared.open_loops.OpenLoop.{OpenLoop}
-use Rattle.lot_script.specs.Drafts.{IsScript, CanNest}
-use Rattle.lot_script.specs.Places.{open_at, open_after}
-use Rattle.lot_script.proofs.Opened.{open_at-next, nests-there}
+use Rattle.lot_script.proofs.Lemmas.{CanNest, IsScript, List, OpenLoop, ScriptLine, arith, get_or, length, nests-there, open_after, open_at, open_at-next, refl, slice_get_read, sym, ℕ, ◌+◌, ◌<◌, ◌≡◌, ◌≤◌}
 use Rattle.lot_script.proofs.script.Script.open_at.Goals as goal
 
 can_nest : (lines fields : List ScriptLine) (i stop : ℕ) (l : ScriptLine) (loops : List OpenLoop) → fields ≡ lines → IsScript fields → loops ≡ open_at lines i → i < stop → stop ≤ length lines

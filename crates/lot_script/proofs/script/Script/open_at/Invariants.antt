@@ -1,5 +1,4 @@
-use Rattle.std.proofs.Common.{◌≡◌}
-use Rattle.lot_script.specs.Places.{open_at}
+use Rattle.lot_script.proofs.Common.{open_at, ◌≡◌}
 use Rattle.lot_script.proofs.script.Script.open_at.Given as goal
 
 abbrev pub invariant-loop-number : goal.invariant-loop-number

@@ -1,7 +1,4 @@
-use Rattle.std.proofs.Common.{arith}
-use Rattle.lot_script.specs.Places.{MakesTrap}
-use Rattle.lot_script.proofs.Passed.{Passes-then}
-use Rattle.lot_script.proofs.Fronts.{slice-trap}
+use Rattle.lot_script.proofs.Lemmas.{MakesTrap, Passes-then, arith, slice-trap}
 use Rattle.lot_script.proofs.script.Script.pass_slice.Goals as goal
 
 pub loop-ticks-preserved : goal.loop-ticks-preserved

@@ -1,5 +1,4 @@
-use Rattle.std.proofs.Common.{◌-◌, ◌≤◌}
-use Rattle.lot_script.specs.Places.{Passes}
+use Rattle.lot_script.proofs.Common.{Passes, ◌-◌, ◌≤◌}
 use Rattle.lot_script.proofs.script.Script.pass_slice.Given as goal
 
 abbrev pub invariant-loop-ticks : goal.invariant-loop-ticks

@@ -1,9 +1,4 @@
-use Rattle.std.proofs.Common.{◌≡◌, arith, subst, sym}
-use Rattle.std.proofs.lemmas.Grind.{common_steps}
-use Rattle.std.specs.Prelude.{map}
-use Rattle.lot_simulation.specs.Script.{without_sleep}
-use Rattle.lot_script.specs.Drafts.{IsScript}
-use Rattle.lot_script.proofs.Awake.{awake-script}
+use Rattle.lot_script.proofs.Lemmas.{IsScript, arith, awake-script, common_steps, map, subst, sym, without_sleep, ◌≡◌}
 use Rattle.lot_script.proofs.script.Script.without_sleeps.Goals as goal
 
 pub invariant_of-result : goal.invariant_of-result

@@ -1,6 +1,4 @@
-use Rattle.std.proofs.Common.{◌≡◌, take}
-use Rattle.std.specs.Prelude.{map}
-use Rattle.lot_simulation.specs.Script.{without_sleep}
+use Rattle.lot_script.proofs.Common.{map, take, without_sleep, ◌≡◌}
 use Rattle.lot_script.proofs.script.Script.without_sleeps.Given as goal
 
 abbrev pub invariant-loop-line : goal.invariant-loop-line

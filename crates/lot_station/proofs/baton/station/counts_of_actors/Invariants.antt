@@ -1,5 +1,4 @@
-use Rattle.std.proofs.Common.{◌≡◌, ℕ, ◌<◌, ◌≤◌, slice_get, Some, vec_len, vec_capacity}
-use Rattle.lot_station.specs.Settings.{counts_in}
+use Rattle.lot_station.proofs.Common.{Some, counts_in, slice_get, vec_capacity, vec_len, ℕ, ◌<◌, ◌≡◌, ◌≤◌}
 use Rattle.lot_station.proofs.baton.station.counts_of_actors.Given as goal
 
 abbrev pub invariant-loop-k : goal.invariant-loop-k

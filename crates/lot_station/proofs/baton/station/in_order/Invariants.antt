@@ -1,5 +1,4 @@
-use Rattle.std.proofs.Common.{◌≡◌, ℕ, ◌<◌, slice_get, Some}
-use Rattle.lot_station.specs.BatonSeats.{Seat}
+use Rattle.lot_station.proofs.Common.{Seat, Some, slice_get, ℕ, ◌<◌, ◌≡◌}
 use Rattle.lot_station.proofs.baton.station.in_order.Given as goal
 
 abbrev pub invariant-loop-k : goal.invariant-loop-k

@@ -1,10 +1,4 @@
-use Rattle.std.proofs.Common.{◌≡◌, List, rules, ◌∷◌, ◌++◌, false, length, map, arith, ap, sym, subst, ◌∙◌}
-use Rattle.std.specs.Prelude.{IfSome, slice_get}
-use Rattle.lot_station.specs.declared.baton.view.View.{View}
-use Rattle.lot_station.specs.BatonViews.{resting}
-use Rattle.lot_station.specs.BatonSeats.{Seat, claim_of}
-use Rattle.lot_station.proofs.BatonSteps.{joins}
-use Rattle.lot_station.proofs.BatonClosing.{here_at, own_claim, head_first, at_middle, one_more, moves_on, all_taken}
+use Rattle.lot_station.proofs.Lemmas.{IfSome, List, Seat, View, all_taken, ap, arith, at_middle, claim_of, false, head_first, here_at, joins, length, map, moves_on, one_more, own_claim, resting, rules, slice_get, subst, sym, ◌++◌, ◌∙◌, ◌∷◌, ◌≡◌}
 use Rattle.lot_station.proofs.baton.station.joined.Goals as goal
 
 pub loop-seat-init : goal.loop-seat-init

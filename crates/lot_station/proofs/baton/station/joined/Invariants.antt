@@ -1,7 +1,4 @@
-use Rattle.std.proofs.Common.{◌≡◌, ◌∷◌, ◌++◌, false, length, map}
-use Rattle.crossbeam_queue.specs.Passes.{view, IsPassOf}
-use Rattle.lot_station.specs.BatonViews.{resting}
-use Rattle.lot_station.specs.BatonSeats.{Seat, claim_of}
+use Rattle.lot_station.proofs.Common.{IsPassOf, Seat, claim_of, false, length, map, resting, view, ◌++◌, ◌∷◌, ◌≡◌}
 use Rattle.lot_station.proofs.baton.station.joined.Given as goal
 
 abbrev pub invariant-loop-seat : goal.invariant-loop-seat

@@ -1,5 +1,4 @@
-use Rattle.std.proofs.Common.{ap, ◌∙◌}
-use Rattle.lot_station.proofs.BatonSteps.{takes}
+use Rattle.lot_station.proofs.Lemmas.{ap, takes, ◌∙◌}
 use Rattle.lot_station.proofs.baton.station.take.Goals as goal
 
 pub pop_as-requires-clause-rule : goal.pop_as-requires-clause-rule

@@ -1,5 +1,4 @@
-use Rattle.std.proofs.Common.{◌≡◌}
-use Rattle.crossbeam_queue.specs.Passes.{view, IsPassOf}
+use Rattle.lot_station.proofs.Common.{IsPassOf, view, ◌≡◌}
 use Rattle.lot_station.proofs.baton.station.take.Given as goal
 
 abbrev pub invariant-loop : goal.invariant-loop

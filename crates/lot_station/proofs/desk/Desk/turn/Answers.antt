@@ -1,7 +1,4 @@
-use Rattle.std.proofs.Common.{rules}
-use Rattle.lot_engine.specs.Turns.{Faults}
-use Rattle.lot_station.specs.Settings.{AtSome}
-use Rattle.lot_station.proofs.Totals.{more_quanta, more_ticks, answered_at, faulted_at}
+use Rattle.lot_station.proofs.Lemmas.{AtSome, Faults, answered_at, faulted_at, more_quanta, more_ticks, rules}
 use Rattle.lot_station.proofs.desk.Desk.turn.Goals as goal
 
 pub add-requires-2 : goal.add-requires-2

@@ -1,6 +1,4 @@
-use Rattle.std.proofs.Common.{List, ap, sym, ◌∙◌, subst, refl, inl, inr}
-use Rattle.lot_engine.specs.Seen.{Setting}
-use Rattle.lot_station.specs.Holders.{Holder, CountsAgree, InOrder}
+use Rattle.lot_station.proofs.Common.{CountsAgree, Holder, InOrder, List, Setting, ap, inl, inr, refl, subst, sym, ◌∙◌}
 use Rattle.lot_station.proofs.station.Station.close.Goals as goal
 
 pub returns-then-not-in_order-clause-err : goal.returns-then-not-in_order-clause-err

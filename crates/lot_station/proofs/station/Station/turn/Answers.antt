@@ -1,8 +1,5 @@
 -- What lies under the lock is of the station's program and room.
-use Rattle.std.proofs.Common.{IfOk, IfErr, subst}
-use Rattle.lot_engine.specs.Seen.{Setting}
-use Rattle.lot_engine.specs.Turns.{Answers, Faults, Goes, IsWorkOf}
-use Rattle.lot_station.specs.Settings.{AtSome}
+use Rattle.lot_station.proofs.Common.{Answers, AtSome, Faults, Goes, IfErr, IfOk, IsWorkOf, Setting, subst}
 use Rattle.lot_station.proofs.station.Station.turn.Goals as goal
 
 pub returns-clause-answer : goal.returns-clause-answer

@@ -1,5 +1,4 @@
-use Rattle.lot_system.proofs.Common.{MadeTurn, Reports, made_text, opening_world, world-one_more, world_of, ◌∙◌, ◌≡◌}
-use Rattle.lot_system.proofs.LineFacts.{put-err, put-ok, texts-more, texts-stop}
+use Rattle.lot_system.proofs.Lemmas.{MadeTurn, Reports, made_text, opening_world, put-err, put-ok, texts-more, texts-stop, world-one_more, world_of, ◌∙◌, ◌≡◌}
 use Rattle.lot_system.proofs.lines.LinesObserver.after.Goals as goal
 
 pub returns-clause-ok : goal.returns-clause-ok

@@ -1,7 +1,4 @@
-use Rattle.lot_text.proofs.Common.{ap, arith, length, length-append, reading_of, [], ◌∷◌, ◌≡◌}
-use Rattle.lot_text.proofs.FaultLemmas.{Gives-memory, Gives-refusal}
-use Rattle.lot_text.proofs.NameLemmas.{ticket-named, ticket-refused}
-use Rattle.lot_text.proofs.ReadingLemmas.{with_ticket_names}
+use Rattle.lot_text.proofs.Lemmas.{Gives-memory, Gives-refusal, ap, arith, length, length-append, reading_of, ticket-named, ticket-refused, with_ticket_names, [], ◌∷◌, ◌≡◌}
 use Rattle.lot_text.proofs.reading.Reading.add_named.Goals as goal
 
 pub invariant_of-self : goal.invariant_of-self

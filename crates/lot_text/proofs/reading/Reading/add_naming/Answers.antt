@@ -1,6 +1,4 @@
-use Rattle.lot_text.proofs.Common.{arith, length, reading_of, sym, ◌<◌}
-use Rattle.lot_text.proofs.FaultLemmas.{Gives-memory}
-use Rattle.lot_text.proofs.ReadingLemmas.{naming-full, naming-read, with_command}
+use Rattle.lot_text.proofs.Lemmas.{Gives-memory, arith, length, naming-full, naming-read, reading_of, sym, with_command, ◌<◌}
 use Rattle.lot_text.proofs.reading.Reading.add_naming.Goals as goal
 
 pub returns-then-len-ge100000 : goal.returns-then-len-ge100000

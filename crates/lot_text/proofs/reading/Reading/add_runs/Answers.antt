@@ -1,6 +1,4 @@
-use Rattle.lot_text.proofs.Common.{Reading, ap, arith, reading_of, refl}
-use Rattle.lot_text.proofs.FaultLemmas.{Gives-memory}
-use Rattle.lot_text.proofs.ReadingLemmas.{with_schedule}
+use Rattle.lot_text.proofs.Lemmas.{Gives-memory, Reading, ap, arith, reading_of, refl, with_schedule}
 use Rattle.lot_text.proofs.reading.Reading.add_runs.Goals as goal
 
 pub returns-in_err-actors : goal.returns-in_err-actors

@@ -1,7 +1,5 @@
 -- What was reserved or refused leaves the state as it was.
-use Rattle.lot_text.proofs.Common.{IsTrue, Reading, length, reading_of, refl, subst, sym, ◌<◌}
-use Rattle.lot_text.proofs.FaultLemmas.{Gives-memory}
-use Rattle.lot_text.proofs.ReadingLemmas.{timed-read, with_timed}
+use Rattle.lot_text.proofs.Lemmas.{Gives-memory, IsTrue, Reading, length, reading_of, refl, subst, sym, timed-read, with_timed, ◌<◌}
 use Rattle.lot_text.proofs.reading.Reading.add_timed_command.Goals as goal
 
 pub invariant_of-self : goal.invariant_of-self

@@ -1,7 +1,5 @@
 -- What the program shares are the tables that were read.
-use Rattle.lot_text.proofs.Common.{IfOk-from_err, Reading, Sizes, ap, arith, length, length-map, reading_of, rules, sym, [], ◌∙◌}
-use Rattle.lot_text.specs.declared.reading.NamedScript.{NamedScript}
-use Rattle.lot_text.proofs.ReadingLemmas.{without_seeds}
+use Rattle.lot_text.proofs.Lemmas.{IfOk-from_err, NamedScript, Reading, Sizes, ap, arith, length, length-map, reading_of, rules, sym, without_seeds, [], ◌∙◌}
 use Rattle.lot_text.proofs.reading.Reading.take_program.Goals as goal
 
 pub invariant_of-self : goal.invariant_of-self

@@ -1,5 +1,4 @@
-use Rattle.lot_text.proofs.Common.{Reading, ap, reading_of, []}
-use Rattle.lot_text.proofs.ReadingLemmas.{without_tables}
+use Rattle.lot_text.proofs.Lemmas.{Reading, ap, reading_of, without_tables, []}
 use Rattle.lot_text.proofs.reading.Reading.take_tables.Goals as goal
 
 pub invariant_of-self : goal.invariant_of-self

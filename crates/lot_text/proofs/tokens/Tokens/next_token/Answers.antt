@@ -1,5 +1,4 @@
-use Rattle.lot_text.proofs.Common.{arith, eqb-false, eqb-true, nat_le, refl, sym, ◌∙◌}
-use Rattle.lot_text.proofs.TokenLemmas.{parts-end, parts-next, parts-alone}
+use Rattle.lot_text.proofs.Lemmas.{arith, eqb-false, eqb-true, nat_le, parts-alone, parts-end, parts-next, refl, sym, ◌∙◌}
 use Rattle.lot_text.proofs.tokens.Tokens.next_token.Goals as goal
 
 pub returns-then-is_empty-clause-next : goal.returns-then-is_empty-clause-next

@@ -1,5 +1,4 @@
-use Rattle.std.proofs.Common.{◌∙◌, sym}
-use Rattle.lot_text.proofs.TokenLemmas.{tokens_of-words}
+use Rattle.lot_text.proofs.Lemmas.{sym, tokens_of-words, ◌∙◌}
 use Rattle.lot_text.proofs.tokens.Tokens.of_line.Goals as goal
 
 pub returns-then-is_printable : goal.returns-then-is_printable

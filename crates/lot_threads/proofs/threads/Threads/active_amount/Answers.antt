@@ -1,5 +1,4 @@
-use Rattle.lot_threads.proofs.Common.{Bool, Funding, LimitedFunding, List, Threaded, active_amount, ap, funding_in, live_in, ◌∙◌, ◌≡◌}
-use Rattle.lot_threads.proofs.Together.{graph-is}
+use Rattle.lot_threads.proofs.Lemmas.{Bool, Funding, LimitedFunding, List, Threaded, active_amount, ap, funding_in, graph-is, live_in, ◌∙◌, ◌≡◌}
 use Rattle.lot_threads.proofs.threads.Threads.active_amount.Goals as goal
 
 pub returns : goal.returns

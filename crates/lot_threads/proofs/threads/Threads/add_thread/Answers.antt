@@ -1,6 +1,4 @@
-use Rattle.lot_threads.proofs.Common.{AreOf, Competitor, Contains, HasTicks, Known, LimitedFunding, List, Option, Record, Some, Thread, Threaded, ap, arith, lends_in, length, live_in, newborn, set_number, sizes_of, subst, sym, with_lends, [], ◌++◌, ◌+◌, ◌<◌, ◌∙◌, ◌∷◌, ◌≡◌}
-use Rattle.lot_threads.proofs.Adding.{added-of, made-stale, number-made}
-use Rattle.lot_threads.proofs.Together.{graph-is, stale-of}
+use Rattle.lot_threads.proofs.Lemmas.{AreOf, Competitor, Contains, HasTicks, Known, LimitedFunding, List, Option, Record, Some, Thread, Threaded, added-of, ap, arith, graph-is, lends_in, length, live_in, made-stale, newborn, number-made, set_number, sizes_of, stale-of, subst, sym, with_lends, [], ◌++◌, ◌+◌, ◌<◌, ◌∙◌, ◌∷◌, ◌≡◌}
 use Rattle.lot_threads.proofs.threads.Threads.add_thread.Goals as goal
 use Rattle.lot_threads.proofs.threads.Threads.add_thread.Goals.{After-threads-number, After-set_competitor}
 

@@ -1,6 +1,4 @@
-use Rattle.lot_threads.proofs.Common.{Bool, CanApply, Known, LimitedFunding, List, Threaded, ap, limited_in, live_in, subst, sym, ◌∙◌}
-use Rattle.lot_threads.proofs.Applying.{together-then, room-then, reached-then}
-use Rattle.lot_threads.proofs.Together.{graph-is}
+use Rattle.lot_threads.proofs.Lemmas.{Bool, CanApply, Known, LimitedFunding, List, Threaded, ap, graph-is, limited_in, live_in, reached-then, room-then, subst, sym, together-then, ◌∙◌}
 use Rattle.lot_threads.proofs.threads.Threads.apply.Goals as goal
 
 pub apply-requires : goal.apply-requires

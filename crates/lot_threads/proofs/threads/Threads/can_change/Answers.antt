@@ -1,5 +1,4 @@
-use Rattle.lot_threads.proofs.Common.{LimitedFunding, Threaded, ap, funding_in, lend_of, refl, sym, ◌∙◌, ◌≡◌}
-use Rattle.lot_threads.proofs.Together.{graph-is, lend-same}
+use Rattle.lot_threads.proofs.Lemmas.{LimitedFunding, Threaded, ap, funding_in, graph-is, lend-same, lend_of, refl, sym, ◌∙◌, ◌≡◌}
 use Rattle.lot_threads.proofs.threads.Threads.can_change.Goals as goal
 
 pub returns-clause-can : goal.returns-clause-can

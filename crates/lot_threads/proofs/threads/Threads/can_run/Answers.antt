@@ -1,5 +1,4 @@
-use Rattle.lot_threads.proofs.Common.{IsBetween, Some, Threaded, ap, eq-eqb, eqb-true, runner_at, subst, sym, ◌∙◌, ◌≡◌}
-use Rattle.lot_threads.proofs.Running.{only-runner, runner-within}
+use Rattle.lot_threads.proofs.Lemmas.{IsBetween, Some, Threaded, ap, eq-eqb, eqb-true, only-runner, runner-within, runner_at, subst, sym, ◌∙◌, ◌≡◌}
 use Rattle.lot_threads.proofs.threads.Threads.can_run.Goals as goal
 
 pub returns-in-Some : goal.returns-in-Some

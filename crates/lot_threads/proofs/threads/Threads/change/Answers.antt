@@ -1,6 +1,4 @@
-use Rattle.lot_threads.proofs.Common.{AreOf, Bool, CanLend, CanRun, Competitor, Contains, Funding, IsBetween, IsThreadOf, IsTimely, Lend, LimitedFunding, List, Option, Record, Running, Some, Status, Threaded, ap, arith, at_number, at_number-map, funding_in, is_live_status, lend_of, lends_in, length, length-map, live_in, number-read, option_map, set_number, sizes_of, status_of, subst, sym, with_lends, with_runner, without_runner, ℕ, ◌∙◌, ◌≡◌}
-use Rattle.lot_threads.proofs.Running.{runner-within}
-use Rattle.lot_threads.proofs.Together.{changed-of, graph-is, stale-of}
+use Rattle.lot_threads.proofs.Lemmas.{AreOf, Bool, CanLend, CanRun, Competitor, Contains, Funding, IsBetween, IsThreadOf, IsTimely, Lend, LimitedFunding, List, Option, Record, Running, Some, Status, Threaded, ap, arith, at_number, at_number-map, changed-of, funding_in, graph-is, is_live_status, lend_of, lends_in, length, length-map, live_in, number-read, option_map, runner-within, set_number, sizes_of, stale-of, status_of, subst, sym, with_lends, with_runner, without_runner, ℕ, ◌∙◌, ◌≡◌}
 use Rattle.lot_threads.proofs.threads.Threads.change.Goals as goal
 use Rattle.lot_threads.proofs.threads.Threads.change.Goals.{After-set_competitor}
 

@@ -1,5 +1,4 @@
-use Rattle.lot_threads.proofs.Common.{Bool, LimitedFunding, List, ap, counted_up, drawn_among, edges_into_all, lends_in, live_in, ready-drawn, sizes_of, subst, sym, thread_value, with_lends, ◌∙◌, ◌≡◌}
-use Rattle.lot_threads.proofs.Together.{drawn-of, graph-is}
+use Rattle.lot_threads.proofs.Lemmas.{Bool, LimitedFunding, List, ap, counted_up, drawn-of, drawn_among, edges_into_all, graph-is, lends_in, live_in, ready-drawn, sizes_of, subst, sym, thread_value, with_lends, ◌∙◌, ◌≡◌}
 use Rattle.lot_threads.proofs.threads.Threads.draw.Goals as goal
 
 pub invariant_of-self : goal.invariant_of-self

@@ -1,5 +1,4 @@
-use Rattle.lot_threads.proofs.Common.{Bool, Funding, IsActive, IsTrue, LimitedFunding, List, Threaded, ap, funding_in, live_in, subst, ◌↔◌, ◌∙◌, ◌≡◌}
-use Rattle.lot_threads.proofs.Together.{graph-is}
+use Rattle.lot_threads.proofs.Lemmas.{Bool, Funding, IsActive, IsTrue, LimitedFunding, List, Threaded, ap, funding_in, graph-is, live_in, subst, ◌↔◌, ◌∙◌, ◌≡◌}
 use Rattle.lot_threads.proofs.threads.Threads.is_active.Goals as goal
 
 pub returns : goal.returns

@@ -1,5 +1,4 @@
-use Rattle.lot_threads.proofs.Common.{LimitedFunding, Queued, ap, arith}
-use Rattle.lot_threads.proofs.Together.{opened-of}
+use Rattle.lot_threads.proofs.Lemmas.{LimitedFunding, Queued, ap, arith, opened-of}
 use Rattle.lot_threads.proofs.threads.Threads.new.Goals as goal
 
 pub invariant_of-result : goal.invariant_of-result

@@ -1,5 +1,4 @@
-use Rattle.lot_threads.proofs.Common.{Funding, IsTrue, LimitedFunding, Reaches, ap, funding_in, subst, ◌↔◌, ◌∙◌, ◌≡◌}
-use Rattle.lot_threads.proofs.Together.{graph-is}
+use Rattle.lot_threads.proofs.Lemmas.{Funding, IsTrue, LimitedFunding, Reaches, ap, funding_in, graph-is, subst, ◌↔◌, ◌∙◌, ◌≡◌}
 use Rattle.lot_threads.proofs.threads.Threads.reaches.Goals as goal
 
 pub returns-clause-reaches : goal.returns-clause-reaches

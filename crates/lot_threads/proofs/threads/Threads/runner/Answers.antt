@@ -1,5 +1,4 @@
-use Rattle.lot_threads.proofs.Common.{IsBelowQuantum, IsTimely, None, Some, ap, arith, number-read, runner_at, subst, sym, ◌-◌, ◌∙◌, ◌≡◌}
-use Rattle.lot_threads.proofs.Running.{runner-runs, runner-found, found-record, run-used}
+use Rattle.lot_threads.proofs.Lemmas.{IsBelowQuantum, IsTimely, None, Some, ap, arith, found-record, number-read, run-used, runner-found, runner-runs, runner_at, subst, sym, ◌-◌, ◌∙◌, ◌≡◌}
 use Rattle.lot_threads.proofs.threads.Threads.runner.Goals as goal
 
 pub returns-in_default-clause-thread : goal.returns-in_default-clause-thread

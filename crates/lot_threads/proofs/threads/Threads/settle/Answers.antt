@@ -1,5 +1,4 @@
-use Rattle.lot_threads.proofs.Common.{LimitedFunding, subst, sym, ◌≡◌}
-use Rattle.lot_threads.proofs.Together.{settled-of}
+use Rattle.lot_threads.proofs.Lemmas.{LimitedFunding, settled-of, subst, sym, ◌≡◌}
 use Rattle.lot_threads.proofs.threads.Threads.settle.Goals as goal
 
 pub settle-requires-clause-places : goal.settle-requires-clause-places

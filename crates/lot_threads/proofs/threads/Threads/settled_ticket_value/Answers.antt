@@ -1,5 +1,4 @@
-use Rattle.lot_threads.proofs.Common.{Bool, LimitedFunding, List, ap, live_in, ticket_value, ◌∙◌}
-use Rattle.lot_threads.proofs.Together.{graph-is}
+use Rattle.lot_threads.proofs.Lemmas.{Bool, LimitedFunding, List, ap, graph-is, live_in, ticket_value, ◌∙◌}
 use Rattle.lot_threads.proofs.threads.Threads.settled_ticket_value.Goals as goal
 
 pub returns : goal.returns

@@ -1,5 +1,4 @@
-use Rattle.lot_threads.proofs.Common.{AreOf, Bool, IsFunding, LimitedFunding, List, Valued, ap, counted_up, false, is_funding, live_in, option_any, refl, sizes_of, subst, sym, ticket_at, ticket_value, true, ℕ, ◌∙◌, ◌≡◌}
-use Rattle.lot_threads.proofs.Together.{graph-is}
+use Rattle.lot_threads.proofs.Lemmas.{AreOf, Bool, IsFunding, LimitedFunding, List, Valued, ap, counted_up, false, graph-is, is_funding, live_in, option_any, refl, sizes_of, subst, sym, ticket_at, ticket_value, true, ℕ, ◌∙◌, ◌≡◌}
 use Rattle.lot_threads.proofs.threads.Threads.ticket_value.Goals as goal
 
 -- nothing but what was counted is another

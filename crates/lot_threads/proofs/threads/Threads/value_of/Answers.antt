@@ -1,5 +1,4 @@
-use Rattle.lot_threads.proofs.Common.{Bool, HasEquation, LimitedFunding, List, ap, live_in, node_value, subst, sym, ◌∙◌}
-use Rattle.lot_threads.proofs.Together.{graph-is}
+use Rattle.lot_threads.proofs.Lemmas.{Bool, HasEquation, LimitedFunding, List, ap, graph-is, live_in, node_value, subst, sym, ◌∙◌}
 use Rattle.lot_threads.proofs.threads.Threads.value_of.Goals as goal
 
 pub returns : goal.returns

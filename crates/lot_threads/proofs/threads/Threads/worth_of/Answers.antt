@@ -1,5 +1,4 @@
-use Rattle.lot_threads.proofs.Common.{Bool, IsThreadOf, LimitedFunding, List, Record, Threaded, ap, arith, lend_of, length, length-map, live_in, sizes_of, subst, sym, thread_value, ◌∙◌}
-use Rattle.lot_threads.proofs.Together.{graph-is}
+use Rattle.lot_threads.proofs.Lemmas.{Bool, IsThreadOf, LimitedFunding, List, Record, Threaded, ap, arith, graph-is, lend_of, length, length-map, live_in, sizes_of, subst, sym, thread_value, ◌∙◌}
 use Rattle.lot_threads.proofs.threads.Threads.worth_of.Goals as goal
 
 pub value_of-requires : goal.value_of-requires

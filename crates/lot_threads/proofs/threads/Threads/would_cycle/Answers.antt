@@ -1,5 +1,4 @@
-use Rattle.lot_threads.proofs.Common.{Funding, IsCycle, IsTrue, LimitedFunding, ap, funding_in, subst, ◌↔◌, ◌∙◌, ◌≡◌}
-use Rattle.lot_threads.proofs.Together.{graph-is}
+use Rattle.lot_threads.proofs.Lemmas.{Funding, IsCycle, IsTrue, LimitedFunding, ap, funding_in, graph-is, subst, ◌↔◌, ◌∙◌, ◌≡◌}
 use Rattle.lot_threads.proofs.threads.Threads.would_cycle.Goals as goal
 
 pub returns-clause-cycle : goal.returns-clause-cycle

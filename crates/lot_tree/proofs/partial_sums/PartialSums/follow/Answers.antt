@@ -1,10 +1,5 @@
 -- The levels that the place needs are taken up one by one.
-use Rattle.std.proofs.Common.{◌≡◌, ◌∙◌, ◌+◌, ◌-◌, ◌^◌, ◌≤◌, ℕ, List, length, set, get_or, ap, sym, subst, refl, arith}
-use Rattle.lot_kept.proofs.Rewritten.{rewritten_is}
-use Rattle.std.proofs.lemmas.Nat.{one_shl}
-use Rattle.std.proofs.Math.Nat.{pow-le-pow_right}
-use Rattle.lot_tree.specs.Sums.{AreKept, Kept}
-use Rattle.lot_tree.proofs.Levels.{AreKept-grown, AreKept-written, level-room}
+use Rattle.lot_tree.proofs.Lemmas.{AreKept, AreKept-grown, AreKept-written, Kept, List, ap, arith, get_or, length, level-room, one_shl, pow-le-pow_right, refl, rewritten_is, set, subst, sym, ℕ, ◌+◌, ◌-◌, ◌^◌, ◌∙◌, ◌≡◌, ◌≤◌}
 use Rattle.lot_tree.proofs.partial_sums.PartialSums.follow.Goals as goal
 
 pub index_mut-requires : goal.index_mut-requires

@@ -1,5 +1,4 @@
-use Rattle.std.proofs.Common.{◌≡◌}
-use Rattle.lot_tree.specs.Sums.{AreKept}
+use Rattle.lot_tree.proofs.Common.{AreKept, ◌≡◌}
 use Rattle.lot_tree.proofs.partial_sums.PartialSums.follow.Given as goal
 
 abbrev pub invariant-loop-level : goal.invariant-loop-level

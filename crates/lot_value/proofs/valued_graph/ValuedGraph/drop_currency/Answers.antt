@@ -1,6 +1,4 @@
-use Rattle.lot_value.proofs.Common.{DropCurrency, false, live_of, refl, slice_set}
-use Rattle.lot_value.proofs.Applied.{Done, done-stays, seen}
-use Rattle.lot_value.proofs.Unchanged.{Stays, stays-currencies}
+use Rattle.lot_value.proofs.Lemmas.{Done, DropCurrency, Stays, done-stays, false, live_of, refl, seen, slice_set, stays-currencies}
 use Rattle.lot_value.proofs.valued_graph.ValuedGraph.drop_currency.Goals as goal
 use Rattle.lot_value.proofs.valued_graph.ValuedGraph.drop_currency.Goals.{After-remove_currency}
 

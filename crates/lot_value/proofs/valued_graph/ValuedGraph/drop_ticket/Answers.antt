@@ -1,6 +1,4 @@
-use Rattle.lot_value.proofs.Common.{CanApply, DropTicket, Valued, live_of, refl, subst, sym}
-use Rattle.lot_value.proofs.Applied.{Done, done-stays, seen}
-use Rattle.lot_value.proofs.Unchanged.{Stays, stays-destroy}
+use Rattle.lot_value.proofs.Lemmas.{CanApply, Done, DropTicket, Stays, Valued, done-stays, live_of, refl, seen, stays-destroy, subst, sym}
 use Rattle.lot_value.proofs.valued_graph.ValuedGraph.drop_ticket.Goals as goal
 use Rattle.lot_value.proofs.valued_graph.ValuedGraph.drop_ticket.Goals.{After-destroy}
 

@@ -1,6 +1,4 @@
-use Rattle.lot_value.proofs.Common.{AddsEdge, EdgeEnds, IsTarget, OfTicket, Some, StandsFor, Unfunded, Valued, subst, sym, target_of, ◌≡◌}
-use Rattle.lot_value.proofs.Applied.{becomes}
-use Rattle.lot_value.proofs.GraphCalls.{fund-came}
+use Rattle.lot_value.proofs.Lemmas.{AddsEdge, EdgeEnds, IsTarget, OfTicket, Some, StandsFor, Unfunded, Valued, becomes, fund-came, subst, sym, target_of, ◌≡◌}
 use Rattle.lot_value.proofs.valued_graph.ValuedGraph.give.Goals as goal
 use Rattle.lot_value.proofs.valued_graph.ValuedGraph.give.Goals.{After-give}
 

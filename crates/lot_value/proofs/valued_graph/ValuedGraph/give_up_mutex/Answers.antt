@@ -1,6 +1,4 @@
-use Rattle.lot_value.proofs.Common.{AddsEdge, IsMutex, OfMutex, StandsFor, Valued, subst, sym, ◌∙◌}
-use Rattle.lot_value.proofs.Applied.{becomes, follows-none, seen}
-use Rattle.lot_value.proofs.GraphCalls.{disown-went, free-same}
+use Rattle.lot_value.proofs.Lemmas.{AddsEdge, IsMutex, OfMutex, StandsFor, Valued, becomes, disown-went, follows-none, free-same, seen, subst, sym, ◌∙◌}
 use Rattle.lot_value.proofs.valued_graph.ValuedGraph.give_up_mutex.Goals as goal
 use Rattle.lot_value.proofs.valued_graph.ValuedGraph.give_up_mutex.Goals.{After-give_up_mutex}
 

@@ -1,5 +1,4 @@
-use Rattle.lot_value.proofs.Common.{None, Some, active-there, live_of, sym, ◌∙◌, ◌≡◌}
-use Rattle.lot_value.proofs.Shares.{ticket-target}
+use Rattle.lot_value.proofs.Lemmas.{None, Some, active-there, live_of, sym, ticket-target, ◌∙◌, ◌≡◌}
 use Rattle.lot_value.proofs.valued_graph.ValuedGraph.is_active.Goals as goal
 
 pub is_active-requires : goal.is_active-requires

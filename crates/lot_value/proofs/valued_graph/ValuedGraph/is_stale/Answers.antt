@@ -1,5 +1,4 @@
-use Rattle.lot_value.proofs.Common.{IsNodeOf, IsNodeWithin, Layout, Valued, subst, sym}
-use Rattle.lot_value.proofs.Nodes.{node-within}
+use Rattle.lot_value.proofs.Lemmas.{IsNodeOf, IsNodeWithin, Layout, Valued, node-within, subst, sym}
 use Rattle.lot_value.proofs.valued_graph.ValuedGraph.is_stale.Goals as goal
 
 pub is_stale-requires : goal.is_stale-requires

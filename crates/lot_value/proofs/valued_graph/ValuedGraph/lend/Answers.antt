@@ -1,6 +1,4 @@
-use Rattle.lot_value.proofs.Common.{AddsEdge, EdgeEnds, IsBorrower, Nobody, OfLender, Some, StandsFor, Valued, at_number, subst, sym, ◌≡◌}
-use Rattle.lot_value.proofs.Applied.{becomes}
-use Rattle.lot_value.proofs.GraphCalls.{lend-came}
+use Rattle.lot_value.proofs.Lemmas.{AddsEdge, EdgeEnds, IsBorrower, Nobody, OfLender, Some, StandsFor, Valued, at_number, becomes, lend-came, subst, sym, ◌≡◌}
 use Rattle.lot_value.proofs.valued_graph.ValuedGraph.lend.Goals as goal
 use Rattle.lot_value.proofs.valued_graph.ValuedGraph.lend.Goals.{After-lend}
 

@@ -1,7 +1,4 @@
-use Rattle.lot_value.proofs.Common.{Follows, IsLive, IsMutex, IsStale, IsThread, Known, LimitedFunding, Node, None, Some, Thread, Valued, ap, inl, inr, live_of, owner_of, refl, set-twice, set_number, subst, sym, with_owners, ◌∙◌, ◌≡◌, ◌⊎◌}
-use Rattle.lot_value.proofs.Applied.{becomes}
-use Rattle.lot_value.proofs.Moving.{follows-move, freed-mutex, freed-free, freed-thread, freed-apart, have-s, have-t, layout, within-s, within-t}
-use Rattle.lot_value.proofs.Touches.{touched-one, touched-then}
+use Rattle.lot_value.proofs.Lemmas.{Follows, IsLive, IsMutex, IsStale, IsThread, Known, LimitedFunding, Node, None, Some, Thread, Valued, ap, becomes, follows-move, freed-apart, freed-free, freed-mutex, freed-thread, have-s, have-t, inl, inr, layout, live_of, owner_of, refl, set-twice, set_number, subst, sym, touched-one, touched-then, with_owners, within-s, within-t, ◌∙◌, ◌≡◌, ◌⊎◌}
 use Rattle.lot_value.proofs.valued_graph.ValuedGraph.move_owner.Goals as goal
 use Rattle.lot_value.proofs.valued_graph.ValuedGraph.move_owner.Goals.{After-give_up_mutex, After-touch-2}
 

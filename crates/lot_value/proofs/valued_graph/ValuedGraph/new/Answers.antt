@@ -1,5 +1,4 @@
-use Rattle.lot_value.proofs.Common.{LimitedFunding, ap, arith, holders, sizes_of}
-use Rattle.lot_value.proofs.Following.{together-new}
+use Rattle.lot_value.proofs.Lemmas.{LimitedFunding, ap, arith, holders, sizes_of, together-new}
 use Rattle.lot_value.proofs.valued_graph.ValuedGraph.new.Goals as goal
 
 pub invariant_of-result : goal.invariant_of-result

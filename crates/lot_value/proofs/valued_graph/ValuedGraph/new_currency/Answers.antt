@@ -1,6 +1,4 @@
-use Rattle.lot_value.proofs.Common.{CanApply, NewCurrency, Valued, live_of, refl, subst, sym, true, with_currencies, [], ◌++◌, ◌∷◌, ◌≡◌}
-use Rattle.lot_value.proofs.Applied.{Done, done-stays, made-in, seen}
-use Rattle.lot_value.proofs.Unchanged.{Stays, stays-currencies}
+use Rattle.lot_value.proofs.Lemmas.{CanApply, Done, NewCurrency, Stays, Valued, done-stays, live_of, made-in, refl, seen, stays-currencies, subst, sym, true, with_currencies, [], ◌++◌, ◌∷◌, ◌≡◌}
 use Rattle.lot_value.proofs.valued_graph.ValuedGraph.new_currency.Goals as goal
 use Rattle.lot_value.proofs.valued_graph.ValuedGraph.new_currency.Goals.{After-make_currency}
 

@@ -1,6 +1,4 @@
-use Rattle.lot_value.proofs.Common.{CanApply, NewTicket, Some, Valued, ap, graph_after, live_of, refl, subst, sym, with_tickets, [], ◌++◌, ◌∙◌, ◌∷◌, ◌≡◌}
-use Rattle.lot_value.proofs.Applied.{Done, done-stays, made-in, seen}
-use Rattle.lot_value.proofs.Unchanged.{Stays, stays-issue}
+use Rattle.lot_value.proofs.Lemmas.{CanApply, Done, NewTicket, Some, Stays, Valued, ap, done-stays, graph_after, live_of, made-in, refl, seen, stays-issue, subst, sym, with_tickets, [], ◌++◌, ◌∙◌, ◌∷◌, ◌≡◌}
 use Rattle.lot_value.proofs.valued_graph.ValuedGraph.new_ticket.Goals as goal
 use Rattle.lot_value.proofs.valued_graph.ValuedGraph.new_ticket.Goals.{After-issue}
 

@@ -1,6 +1,4 @@
-use Rattle.lot_value.proofs.Common.{Some, Unfunded, Valued, live_of, subst, sym, target_of, ◌≡◌}
-use Rattle.lot_value.proofs.Applied.{follows-stays}
-use Rattle.lot_value.proofs.Unchanged.{Stays, stays-amount}
+use Rattle.lot_value.proofs.Lemmas.{Some, Stays, Unfunded, Valued, follows-stays, live_of, stays-amount, subst, sym, target_of, ◌≡◌}
 use Rattle.lot_value.proofs.valued_graph.ValuedGraph.reissue.Goals as goal
 use Rattle.lot_value.proofs.valued_graph.ValuedGraph.reissue.Goals.{After-set_amount}
 

@@ -1,6 +1,4 @@
-use Rattle.lot_value.proofs.Common.{ReuseCurrency, live_of, refl, slice_set, true}
-use Rattle.lot_value.proofs.Applied.{Done, done-stays, seen}
-use Rattle.lot_value.proofs.Unchanged.{Stays, stays-currencies}
+use Rattle.lot_value.proofs.Lemmas.{Done, ReuseCurrency, Stays, done-stays, live_of, refl, seen, slice_set, stays-currencies, true}
 use Rattle.lot_value.proofs.valued_graph.ValuedGraph.reuse_currency.Goals as goal
 use Rattle.lot_value.proofs.valued_graph.ValuedGraph.reuse_currency.Goals.{After-make_currency_again}
 

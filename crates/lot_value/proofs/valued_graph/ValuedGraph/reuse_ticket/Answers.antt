@@ -1,6 +1,4 @@
-use Rattle.lot_value.proofs.Common.{CanApply, ReuseTicket, Some, Valued, ap, graph_after, live_of, refl, set_number, subst, sym, with_tickets, ◌∙◌, ◌≡◌}
-use Rattle.lot_value.proofs.Applied.{Done, done-stays, seen}
-use Rattle.lot_value.proofs.Unchanged.{Stays, stays-again}
+use Rattle.lot_value.proofs.Lemmas.{CanApply, Done, ReuseTicket, Some, Stays, Valued, ap, done-stays, graph_after, live_of, refl, seen, set_number, stays-again, subst, sym, with_tickets, ◌∙◌, ◌≡◌}
 use Rattle.lot_value.proofs.valued_graph.ValuedGraph.reuse_ticket.Goals as goal
 use Rattle.lot_value.proofs.valued_graph.ValuedGraph.reuse_ticket.Goals.{After-issue_again}
 

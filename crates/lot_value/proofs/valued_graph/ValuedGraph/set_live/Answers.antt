@@ -1,6 +1,4 @@
-use Rattle.lot_value.proofs.Common.{ChangesNodes, IsKeptFor, IsThread, Thread, Valued, live_of, refl, set_number, subst, sym}
-use Rattle.lot_value.proofs.Applied.{becomes}
-use Rattle.lot_value.proofs.Following.{low, follows-set}
+use Rattle.lot_value.proofs.Lemmas.{ChangesNodes, IsKeptFor, IsThread, Thread, Valued, becomes, follows-set, live_of, low, refl, set_number, subst, sym}
 use Rattle.lot_value.proofs.valued_graph.ValuedGraph.set_live.Goals as goal
 use Rattle.lot_value.proofs.valued_graph.ValuedGraph.set_live.Goals.{After-set_live}
 

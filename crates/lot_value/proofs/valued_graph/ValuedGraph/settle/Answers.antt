@@ -1,5 +1,4 @@
-use Rattle.lot_value.proofs.Common.{IsUnit, live_of, subst, sym}
-use Rattle.lot_value.proofs.Following.{stays-small}
+use Rattle.lot_value.proofs.Lemmas.{IsUnit, live_of, stays-small, subst, sym}
 use Rattle.lot_value.proofs.valued_graph.ValuedGraph.settle.Goals as goal
 
 pub settle-requires : goal.settle-requires

@@ -1,7 +1,4 @@
-use Rattle.lot_value.proofs.Common.{HasEquation, IfNone, IfSome, IsNodeOf, IsNodeWithin, IsOnce, IsUnit, Known, Layout, LimitedFunding, Node, None, Option, Settles, Some, Valued, ap, counted_up, edge_count_into, layout_of, live_of, subst, sym, [], ◌≡◌}
-use Rattle.lot_value.proofs.Following.{stays-small}
-use Rattle.lot_value.proofs.Nodes.{node-within, within-node}
-use Rattle.lot_value.proofs.Rightness.{right-worth}
+use Rattle.lot_value.proofs.Lemmas.{HasEquation, IfNone, IfSome, IsNodeOf, IsNodeWithin, IsOnce, IsUnit, Known, Layout, LimitedFunding, Node, None, Option, Settles, Some, Valued, ap, counted_up, edge_count_into, layout_of, live_of, node-within, right-worth, stays-small, subst, sym, within-node, [], ◌≡◌}
 use Rattle.lot_value.proofs.valued_graph.ValuedGraph.settle_next.Goals as goal
 
 unit-stays : (old new : Known) (o : Option Node) → IfSome o (Settles old new) → IfNone o ((old.stale ≡ []) × (new ≡ old)) → new.unit ≡ old.unit

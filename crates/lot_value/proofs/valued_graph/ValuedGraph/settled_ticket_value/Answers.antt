@@ -1,5 +1,4 @@
-use Rattle.lot_value.proofs.Common.{Valued, live_of, subst, sym, [], ◌≡◌}
-use Rattle.lot_value.proofs.Following.{stays-small}
+use Rattle.lot_value.proofs.Lemmas.{Valued, live_of, stays-small, subst, sym, [], ◌≡◌}
 use Rattle.lot_value.proofs.valued_graph.ValuedGraph.settled_ticket_value.Goals as goal
 
 pub settled_ticket_value-requires : goal.settled_ticket_value-requires

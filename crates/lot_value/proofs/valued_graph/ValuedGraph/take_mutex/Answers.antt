@@ -1,6 +1,4 @@
-use Rattle.lot_value.proofs.Common.{AddsEdge, EdgeEnds, IsMutex, IsThread, None, OfMutex, StandsFor, Valued, owner_of, subst, sym, ◌≡◌}
-use Rattle.lot_value.proofs.Applied.{becomes}
-use Rattle.lot_value.proofs.GraphCalls.{own-came}
+use Rattle.lot_value.proofs.Lemmas.{AddsEdge, EdgeEnds, IsMutex, IsThread, None, OfMutex, StandsFor, Valued, becomes, own-came, owner_of, subst, sym, ◌≡◌}
 use Rattle.lot_value.proofs.valued_graph.ValuedGraph.take_mutex.Goals as goal
 use Rattle.lot_value.proofs.valued_graph.ValuedGraph.take_mutex.Goals.{After-take_mutex}
 

@@ -1,5 +1,4 @@
-use Rattle.lot_value.proofs.Common.{Currency, IsStale, IsUnit, Some, Ticket, Valued, live_of, subst, sym, ticket_at, ◌≡◌}
-use Rattle.lot_value.proofs.Following.{stays-small}
+use Rattle.lot_value.proofs.Lemmas.{Currency, IsStale, IsUnit, Some, Ticket, Valued, live_of, stays-small, subst, sym, ticket_at, ◌≡◌}
 use Rattle.lot_value.proofs.valued_graph.ValuedGraph.ticket_value.Goals as goal
 
 pub ticket_value-requires : goal.ticket_value-requires

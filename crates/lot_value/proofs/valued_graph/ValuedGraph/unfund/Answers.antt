@@ -1,7 +1,4 @@
-use Rattle.lot_value.proofs.Common.{AddsEdge, OfTicket, StandsFor, sym, ◌∙◌}
-use Rattle.lot_value.proofs.Amounts.{unfunded-there}
-use Rattle.lot_value.proofs.Applied.{becomes}
-use Rattle.lot_value.proofs.GraphCalls.{unfund-went}
+use Rattle.lot_value.proofs.Lemmas.{AddsEdge, OfTicket, StandsFor, becomes, sym, unfund-went, unfunded-there, ◌∙◌}
 use Rattle.lot_value.proofs.valued_graph.ValuedGraph.unfund.Goals as goal
 use Rattle.lot_value.proofs.valued_graph.ValuedGraph.unfund.Goals.{After-unfund}
 

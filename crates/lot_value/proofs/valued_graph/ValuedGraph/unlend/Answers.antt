@@ -1,6 +1,4 @@
-use Rattle.lot_value.proofs.Common.{AddsEdge, OfLender, StandsFor, sym, ◌∙◌}
-use Rattle.lot_value.proofs.Applied.{becomes}
-use Rattle.lot_value.proofs.GraphCalls.{unlend-went}
+use Rattle.lot_value.proofs.Lemmas.{AddsEdge, OfLender, StandsFor, becomes, sym, unlend-went, ◌∙◌}
 use Rattle.lot_value.proofs.valued_graph.ValuedGraph.unlend.Goals as goal
 use Rattle.lot_value.proofs.valued_graph.ValuedGraph.unlend.Goals.{After-unlend}
 

@@ -1,5 +1,4 @@
-use Rattle.lot_value.proofs.Common.{IsNodeOf, IsNodeWithin, Layout, Valued, live_of, subst, sym}
-use Rattle.lot_value.proofs.Nodes.{node-within}
+use Rattle.lot_value.proofs.Lemmas.{IsNodeOf, IsNodeWithin, Layout, Valued, live_of, node-within, subst, sym}
 use Rattle.lot_value.proofs.valued_graph.ValuedGraph.value_of.Goals as goal
 
 pub value_of-requires : goal.value_of-requires

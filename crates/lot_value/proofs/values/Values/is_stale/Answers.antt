@@ -1,7 +1,4 @@
-use Rattle.lot_value.proofs.Common.{Contains, IsNodeWithin, Known, node_count, nodes_of, subst, sym}
-use Rattle.lot_value.proofs.Listed.{list-within}
-use Rattle.lot_value.proofs.Mapped.{place-mapped}
-use Rattle.lot_value.proofs.Spreading.{list-test}
+use Rattle.lot_value.proofs.Lemmas.{Contains, IsNodeWithin, Known, list-test, list-within, node_count, nodes_of, place-mapped, subst, sym}
 use Rattle.lot_value.proofs.values.Values.is_stale.Goals as goal
 
 pub returns : goal.returns

@@ -1,5 +1,4 @@
-use Rattle.std.proofs.Common.{◌∙◌}
-use Rattle.lot_value.proofs.Settled.{settle-more, settled-unit, once-mapped}
+use Rattle.lot_value.proofs.Lemmas.{once-mapped, settle-more, settled-unit, ◌∙◌}
 use Rattle.lot_value.proofs.values.Values.settle.Goals as goal
 
 pub loop-preserved : goal.loop-preserved

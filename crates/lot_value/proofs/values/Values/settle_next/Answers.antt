@@ -1,7 +1,4 @@
-use Rattle.lot_value.proofs.Common.{IsFreshPlace, IsNodeOf, IsNodeWithin, Known, Layout, List, OnFalse_at, ap, layout_of, list-back, map, node_count, node_of, nodes_of, refl, stale_places, subst, sym, ℕ, ◌<◌, ◌∙◌, ◌≡◌}
-use Rattle.lot_value.proofs.Listed.{listed-low, list-within}
-use Rattle.lot_value.proofs.Nodes.{within-node}
-use Rattle.lot_value.proofs.Settled.{first-none, fresh-place, once-mapped, places-back}
+use Rattle.lot_value.proofs.Lemmas.{IsFreshPlace, IsNodeOf, IsNodeWithin, Known, Layout, List, OnFalse_at, ap, first-none, fresh-place, layout_of, list-back, list-within, listed-low, map, node_count, node_of, nodes_of, once-mapped, places-back, refl, stale_places, subst, sym, within-node, ℕ, ◌<◌, ◌∙◌, ◌≡◌}
 use Rattle.lot_value.proofs.values.Values.settle_next.Goals as goal
 use Rattle.lot_value.proofs.values.Values.settle_next.Goals.{After-layout}
 

@@ -1,7 +1,4 @@
-use Rattle.lot_value.proofs.Common.{AreSources, Bool, IsFreshPlace, IsRight, IsSmall, Known, Layout, List, Some, ap, arith, kept_worth, layout_of, length, map, mapped-contains, node_at, node_count, node_of, nodes_of, place-in, refl, shares_into, stale_places, subst, sym, ℕ, ◌∙◌, ◌≡◌}
-use Rattle.lot_value.proofs.Listed.{list-within, reordered-same}
-use Rattle.lot_value.proofs.Rightness.{sources-small}
-use Rattle.lot_value.proofs.Settled.{places-back, settle-right, settle-settles, source-fresh, shares-at}
+use Rattle.lot_value.proofs.Lemmas.{AreSources, Bool, IsFreshPlace, IsRight, IsSmall, Known, Layout, List, Some, ap, arith, kept_worth, layout_of, length, list-within, map, mapped-contains, node_at, node_count, node_of, nodes_of, place-in, places-back, refl, reordered-same, settle-right, settle-settles, shares-at, shares_into, source-fresh, sources-small, stale_places, subst, sym, ℕ, ◌∙◌, ◌≡◌}
 use Rattle.lot_value.proofs.values.Values.settle_node.Goals as goal
 use Rattle.lot_value.proofs.values.Values.settle_node.Goals.{After-deref}
 

@@ -1,7 +1,4 @@
-use Rattle.lot_value.proofs.Common.{Bool, IsFreshPlace, IsNodeWithin, IsReordered, IsRight, IsSmall, IsStaleList, Known, Layout, List, Node, Settles, ap, counted_up, edge_count_into, layout_of, list-back, map, node_count, node_of, nodes_of, refl, subst, sym, ℕ, ◌<◌, ◌∙◌, ◌≡◌}
-use Rattle.lot_value.proofs.Listed.{list-within}
-use Rattle.lot_value.proofs.Mapped.{reordered-mapped}
-use Rattle.lot_value.proofs.Settled.{reordered-right, reordered-settles, nothing-stale, known-same, places-back}
+use Rattle.lot_value.proofs.Lemmas.{Bool, IsFreshPlace, IsNodeWithin, IsReordered, IsRight, IsSmall, IsStaleList, Known, Layout, List, Node, Settles, ap, counted_up, edge_count_into, known-same, layout_of, list-back, list-within, map, node_count, node_of, nodes_of, nothing-stale, places-back, refl, reordered-mapped, reordered-right, reordered-settles, subst, sym, ℕ, ◌<◌, ◌∙◌, ◌≡◌}
 use Rattle.lot_value.proofs.values.Values.settle_raised.Goals as goal
 use Rattle.lot_value.proofs.values.Values.settle_raised.Goals.{After-raise_fresh}
 

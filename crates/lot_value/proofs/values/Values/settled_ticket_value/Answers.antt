@@ -1,5 +1,4 @@
-use Rattle.lot_value.proofs.Common.{Contains, Currency, IsFunding, IsStale, Known, List, Node, OfTicket, ap, arith, contains-nothing, ends-ticket, funding-ticket, layout_of, length, node_count, subst, sym, true≢false, ℕ, [], ◌∙◌, ◌≡◌}
-use Rattle.lot_value.proofs.TicketWorth.{share-at, kept-share, ticket-small, unfunded-nothing}
+use Rattle.lot_value.proofs.Lemmas.{Contains, Currency, IsFunding, IsStale, Known, List, Node, OfTicket, ap, arith, contains-nothing, ends-ticket, funding-ticket, kept-share, layout_of, length, node_count, share-at, subst, sym, ticket-small, true≢false, unfunded-nothing, ℕ, [], ◌∙◌, ◌≡◌}
 use Rattle.lot_value.proofs.values.Values.settled_ticket_value.Goals as goal
 
 none-stale : (k : Known) (c : ℕ) → k.stale ≡ [] → ¬ IsStale k (Currency c)

@@ -1,6 +1,4 @@
-use Rattle.lot_value.proofs.Common.{Currency, IsFunding, IsRight, Known, OfTicket, ap, arith, counted_up, ends-ticket, funding-ticket, layout_of, length, node_count, refl, subst, sym, the_view, true≢false, ◌∙◌}
-use Rattle.lot_value.proofs.Settled.{reads-right}
-use Rattle.lot_value.proofs.TicketWorth.{share-at, kept-share, ticket-small, unfunded-nothing}
+use Rattle.lot_value.proofs.Lemmas.{Currency, IsFunding, IsRight, Known, OfTicket, ap, arith, counted_up, ends-ticket, funding-ticket, kept-share, layout_of, length, node_count, reads-right, refl, share-at, subst, sym, the_view, ticket-small, true≢false, unfunded-nothing, ◌∙◌}
 use Rattle.lot_value.proofs.values.Values.ticket_value.Goals as goal
 
 pub read_share-requires-clause-edge : goal.read_share-requires-clause-edge

@@ -1,6 +1,4 @@
-use Rattle.lot_value.proofs.Common.{Known, Layout, MarksNodes, ap, layout_of, map, node_of, nodes_of, refl, subst, sym, ◌∙◌}
-use Rattle.lot_value.proofs.Nodes.{node-within}
-use Rattle.lot_value.proofs.Rightness.{marks-nodes, touch-right, touch-exact}
+use Rattle.lot_value.proofs.Lemmas.{Known, Layout, MarksNodes, ap, layout_of, map, marks-nodes, node-within, node_of, nodes_of, refl, subst, sym, touch-exact, touch-right, ◌∙◌}
 use Rattle.lot_value.proofs.values.Values.touch.Goals as goal
 
 marks : (c : goal.After-mark) → MarksNodes c.args.graph.now.funding (map (node_of c.self.inside.layout) (nodes_of c.self.inside.stale 0)) (map (node_of c.self.inside.layout) (nodes_of c.mark.new.stale 0)) c.args.node

@@ -1,5 +1,4 @@
-use Rattle.lot_value.proofs.Common.{IsNodeWithin, Known, Layout, ap, arith, get_or_read, length, list-low, slice_index, subst, sym, value_in, ◌<◌, ◌∙◌}
-use Rattle.lot_value.proofs.Rightness.{right-worth}
+use Rattle.lot_value.proofs.Lemmas.{IsNodeWithin, Known, Layout, ap, arith, get_or_read, length, list-low, right-worth, slice_index, subst, sym, value_in, ◌<◌, ◌∙◌}
 use Rattle.lot_value.proofs.values.Values.value_of.Goals as goal
 
 pub returns-clause-worth : goal.returns-clause-worth

@@ -1,7 +1,4 @@
-use Rattle.std.proofs.Common.{◌≡◌, ◌++◌, ◌∙◌, rules, subst}
-use Rattle.lot_machine.specs.declared.funding.Node.TheVariants.{Currency}
-use Rattle.lot_graph.specs.Graphs.{HasEachOnce, LeadsInto}
-use Rattle.lot_kernel_tests.proofs.SumLemmas.{backing-total}
+use Rattle.lot_kernel_tests.proofs.Lemmas.{Currency, HasEachOnce, LeadsInto, backing-total, rules, subst, ◌++◌, ◌∙◌, ◌≡◌}
 use Rattle.lot_kernel_tests.proofs.tests.funding.graph.backing_of.Goals as goal
 
 pub returns : goal.returns

@@ -1,6 +1,4 @@
-use Rattle.std.proofs.Common.{◌≡◌, ◌++◌, ◌*◌, ◌+◌, ◌≤◌, ◌<◌, ◌^◌, length, sum_by}
-use Rattle.lot_machine.specs.declared.funding.Node.TheVariants.{Currency}
-use Rattle.lot_graph.specs.Graphs.{HasEachOnce, LeadsInto, edge_amount}
+use Rattle.lot_kernel_tests.proofs.Common.{Currency, HasEachOnce, LeadsInto, edge_amount, length, sum_by, ◌*◌, ◌++◌, ◌+◌, ◌<◌, ◌^◌, ◌≡◌, ◌≤◌}
 use Rattle.lot_kernel_tests.proofs.tests.funding.graph.backing_of.Given as goal
 
 -- the sum is that of the edges that were yielded

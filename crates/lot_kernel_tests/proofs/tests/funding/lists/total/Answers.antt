@@ -1,6 +1,4 @@
-use Rattle.std.proofs.Common.{◌≡◌, ◌++◌, ◌∷◌, arith, rules}
-use Rattle.lot_lists.specs.NodeLists.{nodes_of}
-use Rattle.lot_lists.proofs.Walks.{met_in_range}
+use Rattle.lot_kernel_tests.proofs.Common.{arith, met_in_range, nodes_of, rules, ◌++◌, ◌∷◌, ◌≡◌}
 use Rattle.lot_kernel_tests.proofs.tests.funding.lists.total.Goals as goal
 
 pub bounds-weights-node : goal.bounds-weights-node

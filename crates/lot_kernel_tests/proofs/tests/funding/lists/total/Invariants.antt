@@ -1,5 +1,4 @@
-use Rattle.std.proofs.Common.{◌≡◌, ◌*◌, ◌≤◌, ◌++◌, length, sum_by, get_or}
-use Rattle.lot_lists.specs.NodeLists.{nodes_of}
+use Rattle.lot_kernel_tests.proofs.Common.{get_or, length, nodes_of, sum_by, ◌*◌, ◌++◌, ◌≡◌, ◌≤◌}
 use Rattle.lot_kernel_tests.proofs.tests.funding.lists.total.Given as goal
 
 -- the list is what was yielded and what is left, and the sum is that of what was yielded

@@ -1,6 +1,5 @@
 -- The weight that is put adds no more than itself to the total.
-use Rattle.std.proofs.Common.{arith}
-use Rattle.std.proofs.lemmas.List.Sums.{sum_by-set}
+use Rattle.lot_kernel_tests.proofs.Common.{arith, sum_by-set}
 use Rattle.lot_kernel_tests.proofs.tests.funding.tree.put.Goals as goal
 
 pub set-requires-clause-limited : goal.set-requires-clause-limited

@@ -1,7 +1,4 @@
-use Rattle.std.proofs.Common.{◌≡◌, not, true, refl, subst}
-use Rattle.lot_graph.specs.Graphs.{LimitedFunding, IsTarget}
-use Rattle.lot_value.proofs.Applied.{target-may}
-use Rattle.lot_threads.specs.Threaded.{funding_in}
+use Rattle.lot_kernel_tests.proofs.Common.{IsTarget, LimitedFunding, funding_in, not, refl, subst, target-may, true, ◌≡◌}
 use Rattle.lot_kernel_tests.proofs.tests.threads.helpers.may_fund.Goals as goal
 
 pub returns-clause-target : goal.returns-clause-target

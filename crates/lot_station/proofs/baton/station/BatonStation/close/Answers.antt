@@ -1,10 +1,4 @@
-use Rattle.std.proofs.Common.{ℕ, List, refl, ap, subst}
-use Rattle.lot_station.specs.declared.baton.view.View.{View}
-use Rattle.lot_station.specs.BatonViews.{SeesAll}
-use Rattle.lot_station.specs.BatonSeats.{Seat, Baton, HasEachSeat}
-use Rattle.lot_station.proofs.BatonClosing.{each_all, shown, last_actor, no_timer}
-use Rattle.lot_station.proofs.BatonCounting.{counts_add_up}
-use Rattle.lot_station.proofs.BatonSharing.{adds_up}
+use Rattle.lot_station.proofs.Lemmas.{Baton, HasEachSeat, List, Seat, SeesAll, View, adds_up, ap, counts_add_up, each_all, last_actor, no_timer, refl, shown, subst, ℕ}
 use Rattle.lot_station.proofs.baton.station.BatonStation.close.Goals as goal
 
 pub returns-clause-order : goal.returns-clause-order

@@ -1,12 +1,4 @@
-use Rattle.std.proofs.Common.{rules, ◌+◌, ◌<◌, [], ◌∷◌, length, arith, None, sym, ap, ◌∙◌}
-use Rattle.std.proofs.lemmas.Option.{get_or_from_slice_get}
-use Rattle.lot_engine.specs.Seen.{Seen}
-use Rattle.lot_station.specs.declared.baton.view.View.{View}
-use Rattle.lot_station.specs.Settings.{counts_in}
-use Rattle.lot_station.specs.BatonViews.{all_but_first, claim, first_actor, resting}
-use Rattle.lot_station.specs.BatonSeats.{baton, seat, seen_in}
-use Rattle.lot_station.proofs.BatonSteps.{opens, deals}
-use Rattle.lot_station.proofs.BatonClosing.{deals_one, dealt_of}
+use Rattle.lot_station.proofs.Lemmas.{None, Seen, View, all_but_first, ap, arith, baton, claim, counts_in, deals, deals_one, dealt_of, first_actor, get_or_from_slice_get, length, opens, resting, rules, seat, seen_in, sym, [], ◌+◌, ◌<◌, ◌∙◌, ◌∷◌}
 use Rattle.lot_station.proofs.baton.station.BatonStation.open.Goals as goal
 
 pub try_push_as-requires-clause-rule : goal.try_push_as-requires-clause-rule

@@ -1,7 +1,4 @@
-use Rattle.std.proofs.Common.{◌≡◌, ◌≤◌, [], ◌∷◌, vec_len, vec_capacity}
-use Rattle.crossbeam_queue.specs.Passes.{view, IsPassOf}
-use Rattle.lot_station.specs.BatonViews.{resting, claim}
-use Rattle.lot_station.specs.BatonSeats.{Dealt}
+use Rattle.lot_station.proofs.Common.{Dealt, IsPassOf, claim, resting, vec_capacity, vec_len, view, [], ◌∷◌, ◌≡◌, ◌≤◌}
 use Rattle.lot_station.proofs.baton.station.BatonStation.open.Given as goal
 
 abbrev pub invariant-loop-k : goal.invariant-loop-k

@@ -1,11 +1,4 @@
-use Rattle.std.proofs.Common.{◌+◌, refl, sym, ◌∙◌, ap, subst}
-use Rattle.lot_engine.specs.Seen.{Setting}
-use Rattle.crossbeam_queue.specs.Passes.{view}
-use Rattle.lot_station.specs.declared.baton.view.View.{View}
-use Rattle.lot_station.specs.BatonViews.{Extends, claim}
-use Rattle.lot_station.specs.BatonSeats.{Baton, Seat, seat, seen_in, Looks}
-use Rattle.lot_station.proofs.BatonSteps.{notes, joins}
-use Rattle.lot_station.proofs.BatonTelling.{Told, told_by, held_with_note, kept_seat, noted_seat, looks, next_same, still_counted}
+use Rattle.lot_station.proofs.Lemmas.{Baton, Extends, Looks, Seat, Setting, Told, View, ap, claim, held_with_note, joins, kept_seat, looks, next_same, noted_seat, notes, refl, seat, seen_in, still_counted, subst, sym, told_by, view, ◌+◌, ◌∙◌}
 use Rattle.lot_station.proofs.baton.station.BatonStation.tell.Given.{Over}
 use Rattle.lot_station.proofs.baton.station.BatonStation.tell.Goals.{After-give}
 use Rattle.lot_station.proofs.baton.station.BatonStation.tell.Goals as goal

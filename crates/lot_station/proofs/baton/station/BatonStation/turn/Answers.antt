@@ -1,11 +1,4 @@
-use Rattle.std.proofs.Common.{rules, IfOk, IfErr, ◌∙◌, ap, subst}
-use Rattle.lot_engine.specs.Seen.{Setting}
-use Rattle.crossbeam_queue.specs.Passes.{view}
-use Rattle.lot_engine.specs.Turns.{Faults}
-use Rattle.lot_station.specs.declared.baton.view.View.{View}
-use Rattle.lot_station.specs.BatonViews.{SeesAll}
-use Rattle.lot_station.specs.BatonSeats.{seat, Looks, Turns, seen_in}
-use Rattle.lot_station.proofs.BatonTelling.{held_after, given_after, next_turn, turned, refused}
+use Rattle.lot_station.proofs.Lemmas.{Faults, IfErr, IfOk, Looks, SeesAll, Setting, Turns, View, ap, given_after, held_after, next_turn, refused, rules, seat, seen_in, subst, turned, view, ◌∙◌}
 use Rattle.lot_station.proofs.baton.station.BatonStation.turn.Goals as goal
 
 pub give-requires-clause-held : goal.give-requires-clause-held

@@ -1,10 +1,4 @@
-use Rattle.std.proofs.Common.{rules, ◌∙◌, ap, subst}
-use Rattle.lot_engine.specs.Seen.{Setting}
-use Rattle.crossbeam_queue.specs.Passes.{view}
-use Rattle.lot_station.specs.declared.baton.view.View.{View}
-use Rattle.lot_station.specs.BatonViews.{SeesAll}
-use Rattle.lot_station.specs.BatonSeats.{seat, Looks, seen_in}
-use Rattle.lot_station.proofs.BatonTelling.{held_after, given_after, looks, still_counted}
+use Rattle.lot_station.proofs.Lemmas.{Looks, SeesAll, Setting, View, ap, given_after, held_after, looks, rules, seat, seen_in, still_counted, subst, view, ◌∙◌}
 use Rattle.lot_station.proofs.baton.station.BatonStation.work.Goals as goal
 
 pub returns-clause-seen : goal.returns-clause-seen

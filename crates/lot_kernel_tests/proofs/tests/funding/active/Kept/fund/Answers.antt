@@ -1,8 +1,4 @@
-use Rattle.std.proofs.Common.{◌≡◌, Some, length, ap, sym, ◌∙◌, rules}
-use Rattle.lot_machine.specs.declared.ticket.Target.TheVariants.{Unfunded}
-use Rattle.lot_machine.specs.Funding.{target_of}
-use Rattle.lot_graph.specs.Graphs.{LimitedFunding, IsTarget}
-use Rattle.lot_kernel_tests.proofs.BothLemmas.{fund-ends}
+use Rattle.lot_kernel_tests.proofs.Lemmas.{IsTarget, LimitedFunding, Some, Unfunded, ap, fund-ends, length, rules, sym, target_of, ◌∙◌, ◌≡◌}
 use Rattle.lot_kernel_tests.proofs.tests.funding.active.Kept.fund.Goals as goal
 
 pub attach-requires : goal.attach-requires

@@ -1,7 +1,4 @@
-use Rattle.std.proofs.Common.{length, ap, sym, ◌∙◌}
-use Rattle.lot_machine.specs.declared.funding.Edge.TheVariants.{OfMutex}
-use Rattle.lot_graph.specs.Graphs.{LimitedFunding}
-use Rattle.lot_kernel_tests.proofs.BothLemmas.{give-ends}
+use Rattle.lot_kernel_tests.proofs.Lemmas.{LimitedFunding, OfMutex, ap, give-ends, length, sym, ◌∙◌}
 use Rattle.lot_kernel_tests.proofs.tests.funding.active.Kept.give_up_mutex.Goals as goal
 
 pub detach-requires-clause-kept : goal.detach-requires-clause-kept

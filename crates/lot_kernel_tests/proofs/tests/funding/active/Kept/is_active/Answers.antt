@@ -1,5 +1,4 @@
-use Rattle.std.proofs.Common.{option_map, ap, sym, ◌∙◌}
-use Rattle.lot_machine.specs.declared.ticket.Ticket.{Ticket}
+use Rattle.lot_kernel_tests.proofs.Common.{Ticket, ap, option_map, sym, ◌∙◌}
 use Rattle.lot_kernel_tests.proofs.tests.funding.active.Kept.is_active.Goals as goal
 
 pub is_active-requires : goal.is_active-requires

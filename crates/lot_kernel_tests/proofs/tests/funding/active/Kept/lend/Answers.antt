@@ -1,7 +1,4 @@
-use Rattle.std.proofs.Common.{length, ap, sym, ◌∙◌, subst}
-use Rattle.lot_graph.specs.Graphs.{LimitedFunding}
-use Rattle.lot_active.specs.Fundings.{IsKeptFor}
-use Rattle.lot_kernel_tests.proofs.BothLemmas.{lend-ends, lends-size}
+use Rattle.lot_kernel_tests.proofs.Lemmas.{IsKeptFor, LimitedFunding, ap, lend-ends, lends-size, length, subst, sym, ◌∙◌}
 use Rattle.lot_kernel_tests.proofs.tests.funding.active.Kept.lend.Goals as goal
 
 pub attach-requires : goal.attach-requires

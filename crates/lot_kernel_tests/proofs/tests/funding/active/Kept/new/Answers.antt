@@ -1,6 +1,4 @@
-use Rattle.std.proofs.Common.{[], length, ap, sym}
-use Rattle.lot_graph.specs.Graphs.{LimitedFunding}
-use Rattle.lot_kernel_tests.proofs.BothLemmas.{none-live}
+use Rattle.lot_kernel_tests.proofs.Lemmas.{LimitedFunding, ap, length, none-live, sym, []}
 use Rattle.lot_kernel_tests.proofs.tests.funding.active.Kept.new.Goals as goal
 
 pub invariant_of-result : goal.invariant_of-result

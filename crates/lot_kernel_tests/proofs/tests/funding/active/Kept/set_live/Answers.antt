@@ -1,5 +1,4 @@
-use Rattle.std.proofs.Common.{◌≤◌, ◌-◌, ◌∙◌, length, length-set, arith}
-use Rattle.lot_machine.specs.Numbered.{set_number}
+use Rattle.lot_kernel_tests.proofs.Common.{arith, length, length-set, set_number, ◌-◌, ◌∙◌, ◌≤◌}
 use Rattle.lot_kernel_tests.proofs.tests.funding.active.Kept.set_live.Goals as goal
 
 pub set_live-requires-clause-kept : goal.set_live-requires-clause-kept

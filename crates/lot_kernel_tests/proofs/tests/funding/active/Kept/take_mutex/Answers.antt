@@ -1,8 +1,4 @@
-use Rattle.std.proofs.Common.{length, ap, sym, ◌∙◌, subst}
-use Rattle.lot_machine.specs.declared.funding.Node.TheVariants.{Thread, Mutex}
-use Rattle.lot_graph.specs.Graphs.{LimitedFunding}
-use Rattle.lot_active.specs.Fundings.{IsKeptFor, edge_between}
-use Rattle.lot_active.proofs.CallEdits.{own-edge}
+use Rattle.lot_kernel_tests.proofs.Common.{IsKeptFor, LimitedFunding, Mutex, Thread, ap, edge_between, length, own-edge, subst, sym, ◌∙◌}
 use Rattle.lot_kernel_tests.proofs.tests.funding.active.Kept.take_mutex.Goals as goal
 
 pub attach-requires : goal.attach-requires

@@ -1,7 +1,4 @@
-use Rattle.std.proofs.Common.{length, ap, sym, ◌∙◌, rules}
-use Rattle.lot_machine.specs.declared.funding.Edge.TheVariants.{OfTicket}
-use Rattle.lot_graph.specs.Graphs.{LimitedFunding, IsFunding}
-use Rattle.lot_kernel_tests.proofs.BothLemmas.{unfund-ends}
+use Rattle.lot_kernel_tests.proofs.Lemmas.{IsFunding, LimitedFunding, OfTicket, ap, length, rules, sym, unfund-ends, ◌∙◌}
 use Rattle.lot_kernel_tests.proofs.tests.funding.active.Kept.unfund.Goals as goal
 
 pub detach-requires-clause-kept : goal.detach-requires-clause-kept

@@ -1,7 +1,4 @@
-use Rattle.std.proofs.Common.{sym, ◌∙◌}
-use Rattle.lot_machine.specs.declared.funding.Edge.TheVariants.{OfLender}
-use Rattle.lot_machine.specs.declared.funding.Lend.TheVariants.{Nobody}
-use Rattle.lot_kernel_tests.proofs.BothLemmas.{unlend-ends, ends-lender_is, lends-size}
+use Rattle.lot_kernel_tests.proofs.Lemmas.{Nobody, OfLender, ends-lender_is, lends-size, sym, unlend-ends, ◌∙◌}
 use Rattle.lot_kernel_tests.proofs.tests.funding.active.Kept.unlend.Goals as goal
 
 pub detach-requires-clause-kept : goal.detach-requires-clause-kept

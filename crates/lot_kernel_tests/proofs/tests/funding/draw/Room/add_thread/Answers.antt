@@ -1,8 +1,4 @@
-use Rattle.std.proofs.Common.{◌∙◌, length, ap, arith}
-use Rattle.std.proofs.lemmas.List.{length_push}
-use Rattle.lot_machine.specs.declared.funding.Lend.TheVariants.{Nobody}
-use Rattle.lot_graph.specs.Graphs.{LimitedFunding}
-use Rattle.lot_draw.proofs.Together.{competes-more, weights-follow}
+use Rattle.lot_kernel_tests.proofs.Common.{LimitedFunding, Nobody, ap, arith, competes-more, length, length_push, weights-follow, ◌∙◌}
 use Rattle.lot_kernel_tests.proofs.tests.funding.draw.Room.add_thread.Goals as goal
 
 pub invariant_of-self : goal.invariant_of-self

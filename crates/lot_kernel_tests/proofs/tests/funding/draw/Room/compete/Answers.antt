@@ -1,6 +1,4 @@
-use Rattle.std.proofs.Common.{◌≤◌, arith, rules}
-use Rattle.lot_graph.specs.Graphs.{IsThread}
-use Rattle.lot_draw.proofs.Together.{queue-set}
+use Rattle.lot_kernel_tests.proofs.Common.{IsThread, arith, queue-set, rules, ◌≤◌}
 use Rattle.lot_kernel_tests.proofs.tests.funding.draw.Room.compete.Goals as goal
 
 pub set_competitor-requires-clause-thread : goal.set_competitor-requires-clause-thread

@@ -1,7 +1,4 @@
-use Rattle.std.proofs.Common.{refl}
-use Rattle.lot_machine.specs.declared.ticket.Target.TheVariants.{Unfunded}
-use Rattle.lot_value.specs.declared.change.GraphChange.TheVariants.{NewTicket}
-use Rattle.lot_kernel_tests.proofs.RoomLemmas.{changed}
+use Rattle.lot_kernel_tests.proofs.Lemmas.{NewTicket, Unfunded, changed, refl}
 use Rattle.lot_kernel_tests.proofs.tests.funding.draw.Room.fund.Goals as goal
 
 pub invariant_of-self : goal.invariant_of-self

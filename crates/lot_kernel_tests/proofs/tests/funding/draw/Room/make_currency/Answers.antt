@@ -1,6 +1,4 @@
-use Rattle.std.proofs.Common.{refl}
-use Rattle.lot_value.specs.declared.change.GraphChange.TheVariants.{NewCurrency}
-use Rattle.lot_kernel_tests.proofs.RoomLemmas.{changed}
+use Rattle.lot_kernel_tests.proofs.Lemmas.{NewCurrency, changed, refl}
 use Rattle.lot_kernel_tests.proofs.tests.funding.draw.Room.make_currency.Goals as goal
 
 pub invariant_of-self : goal.invariant_of-self

@@ -1,7 +1,4 @@
-use Rattle.std.proofs.Common.{ap}
-use Rattle.lot_graph.specs.Graphs.{LimitedFunding}
-use Rattle.lot_draw.specs.Queued.{Queued}
-use Rattle.lot_draw.proofs.Together.{competes-none}
+use Rattle.lot_kernel_tests.proofs.Common.{LimitedFunding, Queued, ap, competes-none}
 use Rattle.lot_kernel_tests.proofs.tests.funding.draw.Room.new.Goals as goal
 
 pub invariant_of-result : goal.invariant_of-result

@@ -1,8 +1,4 @@
-use Rattle.std.proofs.Common.{refl, subst, sym}
-use Rattle.lot_value.specs.declared.change.GraphChange.TheVariants.{PutTicket}
-use Rattle.lot_value.specs.Valued.{Valued}
-use Rattle.lot_draw.specs.Queued.{AreWeights, CompetesIn}
-use Rattle.lot_kernel_tests.proofs.RoomLemmas.{changed}
+use Rattle.lot_kernel_tests.proofs.Lemmas.{AreWeights, CompetesIn, PutTicket, Valued, changed, refl, subst, sym}
 use Rattle.lot_kernel_tests.proofs.tests.funding.draw.Room.put_target.Goals as goal
 
 pub invariant_of-self : goal.invariant_of-self
