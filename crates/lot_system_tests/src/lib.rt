@@ -1,6 +1,7 @@
-//! Tests of `lot_system` and of what shows a system: turns, reports and faults; words about refused inputs,
-//! explanations, curves, tables and pictures; and runs in which an allocation fails. They are in a crate of their own,
-//! so that the crates that they test are not proved a second time for them.
+//! Tests of the simulator: turns, reports and faults; `shown`: words about refused inputs, explanations, curves, tables
+//! and pictures; `stations`: seats of one thread and of many, and workers; `sizes`: inputs, kernels, systems and
+//! stations at their least and largest sizes; and runs in which an allocation fails. They stand in a crate of their
+//! own, so that the crates that they test aren't proved a second time for them.
 #![tactic(auto)]
 
 #[cfg(test)]
