@@ -195,23 +195,24 @@ extern "C" {
 // Returns the version of the library.
 uint32_t lot_version(void);
 
-// ---- status
+// ---- numbers, made by bindings/write_tables of the table that the proofs read
 
+// The statuses of calls.
 typedef enum lot_status LOT_OF_UINT32 {
     LOT_DONE = 0,
-    LOT_NO_KERNEL = 1,     // the lot_kernel holds no kernel
-    LOT_KERNEL_THERE = 2,  // the lot_kernel holds a kernel already
-    LOT_BAD_LIMITS = 3,    // a size is out of its bounds
-    LOT_NO_MEMORY = 4,     // out of memory
-    LOT_BAD_KIND = 5,      // an event of a nonexistent kind
-    LOT_LONG_NAME = 6,     // a name of more than 16 bytes
-    LOT_BAD_NAME = 7,      // a name of length 0 where one is needed, or with a byte that the kernel's names can't have
-    LOT_NOT_THERE = 8,     // nothing exists with this number
-    LOT_COUNTS_DIFFER = 9, // the numbers of events and replies differ
-    LOT_BAD_SEED = 10,     // a seed or a generator's value that is 0 or above 2147483646
-    LOT_NO_WINNER = 11,    // the weights sum to 0
-    LOT_TOO_LARGE = 12,    // the weights sum to 2 ^ 128 or more
-    LOT_NOT_SETTLED = 13   // a value is stale: an event since lot_kernel_settle may have changed it
+    LOT_NO_KERNEL = 1,
+    LOT_KERNEL_THERE = 2,
+    LOT_BAD_LIMITS = 3,
+    LOT_NO_MEMORY = 4,
+    LOT_BAD_KIND = 5,
+    LOT_LONG_NAME = 6,
+    LOT_BAD_NAME = 7,
+    LOT_NOT_THERE = 8,
+    LOT_COUNTS_DIFFER = 9,
+    LOT_BAD_SEED = 10, // a seed or a generator's value is 0 or above 2147483646
+    LOT_NO_WINNER = 11,
+    LOT_TOO_LARGE = 12,
+    LOT_NOT_SETTLED = 13 // a value is stale, since an event may have changed it
 } lot_status;
 
 // Returns the status in words, for printing: a static string, "unknown status" for any other number.
@@ -234,6 +235,207 @@ static inline const char *lot_status_text(uint32_t status) {
     }
     return "unknown status";
 }
+
+// The kinds of events. A kind by number has the effect and the refusals of that by name.
+typedef enum lot_event_kind LOT_OF_UINT32 {
+    LOT_MAKE_TICKET = 1, // amount, currency
+    LOT_REMOVE_TICKET = 2, // ticket
+    LOT_MAKE_CURRENCY = 3, // name
+    LOT_REMOVE_CURRENCY = 4, // currency
+    LOT_FUND = 5, // ticket, name: target
+    LOT_UNFUND = 6, // ticket
+    LOT_MAKE_THREAD = 7, // name, script
+    LOT_MAKE_FUNDED = 8, // amount, currency, name, script
+    LOT_LIST_TICKETS = 9, // no field
+    LOT_LIST_CURRENCIES = 10, // no field
+    LOT_LIST_THREADS = 11, // no field
+    LOT_DRAW = 12, // processor, number
+    LOT_EXPIRE = 13, // processor
+    LOT_YIELD = 14, // processor, ticks
+    LOT_CALL = 15, // processor, ticks, object: port, sent
+    LOT_RECEIVE = 16, // processor, ticks, object: port
+    LOT_REPLY = 17, // processor, ticks, sent
+    LOT_LOCK = 18, // processor, ticks, object: mutex
+    LOT_UNLOCK = 19, // processor, ticks, object: mutex, number
+    LOT_EXIT = 20, // processor, ticks
+    LOT_SERVE = 21, // processor, ticks, object: port, sent
+    LOT_SET_TICKET = 22, // ticket, amount
+    LOT_REMOVE_THREAD = 23, // name: thread
+    LOT_SLEEP = 24, // processor, ticks
+    LOT_PREEMPT = 25, // processor, ticks
+    LOT_OVERRUN = 26, // processor, ticks: late
+    LOT_WAKE = 27, // object: thread
+    LOT_MAKE_TICKET_IN = 28, // amount, object: currency
+    LOT_REMOVE_CURRENCY_NUMBERED = 29, // object: currency
+    LOT_FUND_CURRENCY = 30, // ticket, object: currency
+    LOT_FUND_THREAD = 31, // ticket, object: thread
+    LOT_REMOVE_THREAD_NUMBERED = 32, // object: thread
+    LOT_MAKE_FUNDED_IN = 33, // amount, object: currency, name, script
+    LOT_KILL = 34, // name: thread
+    LOT_KILL_NUMBERED = 35 // object: thread
+} lot_event_kind;
+
+// The kinds of replies, with the fields that each sets.
+typedef enum lot_reply_kind LOT_OF_UINT32 {
+    LOT_REPLY_TICKET = 1, // ticket: its number. A ticket was made.
+    LOT_REPLY_CURRENCY = 2, // currency: its number. A currency was made.
+    LOT_REPLY_THREAD = 3, // thread: its number. A thread was made.
+    // ticket: the ticket's number; thread: the thread's number. A thread and the ticket that funds it were made.
+    LOT_REPLY_FUNDED = 4,
+    LOT_REPLY_DONE = 5, // The event is done.
+    LOT_REPLY_LIST_TICKETS = 6, // A listing was requested. Read the rows one by one.
+    LOT_REPLY_LIST_CURRENCIES = 7, // A listing was requested. Read the rows one by one.
+    LOT_REPLY_LIST_THREADS = 8, // A listing was requested. Read the rows one by one.
+    // thread: its number; number: the drawn number, below the total; total: the sum of the weights, in base units;
+    // sent, has_sent: the number sent to the thread while it waited, by a call or a reply. A thread won the draw, and
+    // runs on the processor.
+    LOT_REPLY_WINNER = 9,
+    LOT_REPLY_IDLE = 10, // No ready thread has any weight, perhaps as values round to 0, and nothing has changed.
+    // thread: its number; ticks: the ticks that it is charged. A thread's quantum is over, or it was preempted, and it
+    // no longer runs.
+    LOT_REPLY_EXPIRED = 11,
+    // thread: its number; ticks: the ticks that it ran since its last event, the trap's own included; outcome: the
+    // trap's outcome; ends: whether its quantum is used up, so that it no longer runs though the outcome would let it
+    // go on; goes_on: whether it runs on, since its outcome leaves it on its processor and its quantum isn't used up.
+    // A thread made a trap.
+    LOT_REPLY_TRAPPED = 12,
+    LOT_REPLY_REFUSED = 13 // reason: the refusal. The event is refused, and has changed nothing.
+} lot_reply_kind;
+
+// The outcomes of traps, with the fields that each sets.
+typedef enum lot_outcome LOT_OF_UINT32 {
+    LOT_OUTCOME_YIELDED = 1, // The thread gave up the rest of its quantum. It no longer runs.
+    LOT_OUTCOME_SERVED_BY = 2, // other: the thread that serves the call. The caller no longer runs.
+    LOT_OUTCOME_QUEUED = 3, // The call waits for a server. The caller no longer runs.
+    LOT_OUTCOME_WAITS = 4, // The thread waits for a call or for a mutex. It no longer runs.
+    // other: the thread that called; sent, has_sent: the number that it sent. A call was taken.
+    LOT_OUTCOME_RECEIVED = 5,
+    LOT_OUTCOME_REPLIED = 6, // other: the client. A client got a reply.
+    LOT_OUTCOME_LOCKED = 7, // The thread owns the mutex.
+    LOT_OUTCOME_FREED = 8, // The mutex is free.
+    // other: the new owner; number, total, has_draw: the number and the total of the lottery, if one was held: not if
+    // the waiters were worth nothing, so that the one that had waited longest got the mutex. The mutex was passed on.
+    // The thread that unlocked it no longer runs.
+    LOT_OUTCOME_PASSED = 9,
+    LOT_OUTCOME_EXITED = 10, // The thread has ended.
+    LOT_OUTCOME_REFUSED = 11, // reason: the refusal. The trap is refused. It cost its ticks even so.
+    // replied_to: the client that got the reply; other: the thread that called; sent, has_sent: the number that it
+    // sent. A client got a reply, and then a call was taken.
+    LOT_OUTCOME_REPLIED_THEN_RECEIVED = 12,
+    // replied_to: the client that got the reply. The thread waits for a call. It no longer runs.
+    LOT_OUTCOME_REPLIED_THEN_WAITS = 13,
+    LOT_OUTCOME_SLEPT = 14 // The thread sleeps until it is woken. It no longer runs.
+} lot_outcome;
+
+// Returns the outcome in words, for printing: a static string, "unknown outcome" for any other number.
+static inline const char *lot_outcome_text(uint32_t outcome) {
+    switch (LOT_CAST(lot_outcome, outcome)) {
+    case LOT_OUTCOME_YIELDED: return "yielded";
+    case LOT_OUTCOME_SERVED_BY: return "served by a thread";
+    case LOT_OUTCOME_QUEUED: return "queued at a port";
+    case LOT_OUTCOME_WAITS: return "waits";
+    case LOT_OUTCOME_RECEIVED: return "received a call";
+    case LOT_OUTCOME_REPLIED: return "replied";
+    case LOT_OUTCOME_LOCKED: return "locked a mutex";
+    case LOT_OUTCOME_FREED: return "freed a mutex";
+    case LOT_OUTCOME_PASSED: return "passed a mutex on";
+    case LOT_OUTCOME_EXITED: return "exited";
+    case LOT_OUTCOME_REFUSED: return "refused";
+    case LOT_OUTCOME_REPLIED_THEN_RECEIVED: return "replied, then received a call";
+    case LOT_OUTCOME_REPLIED_THEN_WAITS: return "replied, then waits";
+    case LOT_OUTCOME_SLEPT: return "sleeps";
+    }
+    return "unknown outcome";
+}
+
+// The reasons for refusing an event or, from 30 on, a trap. A refused trap costs its ticks even so.
+typedef enum lot_refusal LOT_OF_UINT32 {
+    LOT_REFUSAL_BAD_NAME = 1, // the kernel doesn't take such a name. For C and Python that is a status.
+    // a currency or a thread, perhaps a dead one, has the name already. Removed ones don't count.
+    LOT_REFUSAL_NAME_TAKEN = 2,
+    LOT_REFUSAL_NO_CURRENCY = 3, // no currency has the name or the number
+    LOT_REFUSAL_NO_TICKET = 4, // no ticket has the number
+    LOT_REFUSAL_NO_TARGET = 5, // no currency or thread has the name or the number
+    LOT_REFUSAL_BAD_AMOUNT = 6, // the amount is 0 or above 4294967295
+    LOT_REFUSAL_IN_USE = 7, // tickets are in it or fund it, or the thread has a client or owns a mutex
+    LOT_REFUSAL_FUNDING = 8, // the ticket funds something already
+    LOT_REFUSAL_NOT_FUNDING = 9,
+    LOT_REFUSAL_CYCLE = 10, // the funding would close a cycle of currencies
+    LOT_REFUSAL_BASE_FIXED = 11, // base can be neither removed nor funded
+    LOT_REFUSAL_DEAD_THREAD = 12, // the thread has ended
+    // the kernel has room for no more of them. `tickets`, `currencies` or `threads` of the sizes is reached, whichever
+    // the event adds to, by all ever made or, with `reuse`, by what exists.
+    LOT_REFUSAL_FULL = 13,
+    LOT_REFUSAL_NO_SCRIPT = 14, // no script has the number
+    LOT_REFUSAL_NO_THREAD = 15, // no thread has the name or the number. A dead one has both until it is removed.
+    LOT_REFUSAL_ALIVE = 16, // the thread hasn't ended. It may wait for good.
+    LOT_REFUSAL_BAD_PROCESSOR = 20, // no processor has the number
+    LOT_REFUSAL_BUSY = 21, // a thread runs on the processor already
+    LOT_REFUSAL_NOT_RUNNING = 22,
+    // the ticks are more than the quantum has left, or than may be counted. A trap's own tick counts.
+    LOT_REFUSAL_BAD_TICKS = 23,
+    LOT_REFUSAL_NOT_ASLEEP = 24, // the thread doesn't sleep. It is ready, runs, waits or is dead.
+    LOT_TRAP_REFUSAL_NO_PORT = 30, // no port has the number
+    LOT_TRAP_REFUSAL_NOTHING_TO_REPLY = 32,
+    LOT_TRAP_REFUSAL_NO_MUTEX = 33, // no mutex has the number
+    LOT_TRAP_REFUSAL_NOT_OWNER = 34,
+    LOT_TRAP_REFUSAL_ALREADY_OWNER = 35,
+    // the wait would close a cycle of threads that wait for each other. Calls that are queued at a port don't count.
+    LOT_TRAP_REFUSAL_LOCK_CYCLE = 36
+} lot_refusal;
+
+// Returns the refusal in words, for printing: a static string, "unknown refusal" for any other number.
+static inline const char *lot_refusal_text(uint32_t refusal) {
+    switch (LOT_CAST(lot_refusal, refusal)) {
+    case LOT_REFUSAL_BAD_NAME: return "bad name";
+    case LOT_REFUSAL_NAME_TAKEN: return "the name is taken";
+    case LOT_REFUSAL_NO_CURRENCY: return "no such currency";
+    case LOT_REFUSAL_NO_TICKET: return "no such ticket";
+    case LOT_REFUSAL_NO_TARGET: return "no such currency or thread";
+    case LOT_REFUSAL_BAD_AMOUNT: return "the amount is out of its range";
+    case LOT_REFUSAL_IN_USE: return "the currency or thread is in use";
+    case LOT_REFUSAL_FUNDING: return "the ticket funds something";
+    case LOT_REFUSAL_NOT_FUNDING: return "the ticket funds nothing";
+    case LOT_REFUSAL_CYCLE: return "currencies would fund each other in a cycle";
+    case LOT_REFUSAL_BASE_FIXED: return "base can't be removed or funded";
+    case LOT_REFUSAL_DEAD_THREAD: return "the thread is dead";
+    case LOT_REFUSAL_FULL: return "the limit is used up";
+    case LOT_REFUSAL_NO_SCRIPT: return "no such script";
+    case LOT_REFUSAL_NO_THREAD: return "no such thread";
+    case LOT_REFUSAL_ALIVE: return "the thread isn't dead";
+    case LOT_REFUSAL_BAD_PROCESSOR: return "no such processor";
+    case LOT_REFUSAL_BUSY: return "a thread runs on the processor";
+    case LOT_REFUSAL_NOT_RUNNING: return "no thread runs on the processor";
+    case LOT_REFUSAL_BAD_TICKS: return "too many ticks";
+    case LOT_REFUSAL_NOT_ASLEEP: return "the thread isn't asleep";
+    case LOT_TRAP_REFUSAL_NO_PORT: return "no such port";
+    case LOT_TRAP_REFUSAL_NOTHING_TO_REPLY: return "the thread serves no client";
+    case LOT_TRAP_REFUSAL_NO_MUTEX: return "no such mutex";
+    case LOT_TRAP_REFUSAL_NOT_OWNER: return "the thread doesn't own the mutex";
+    case LOT_TRAP_REFUSAL_ALREADY_OWNER: return "the thread owns the mutex already";
+    case LOT_TRAP_REFUSAL_LOCK_CYCLE: return "the wait would close a cycle";
+    }
+    return "unknown refusal";
+}
+
+// The statuses of threads, with the fields that each sets.
+typedef enum lot_thread_status_kind LOT_OF_UINT32 {
+    LOT_STATUS_READY = 1, // it competes in draws
+    LOT_STATUS_RUNNING = 2, // it runs on `processor`, and has used `used` ticks of its quantum, below the quantum
+    LOT_STATUS_RECEIVING = 3, // it waits for a call at the port `other`
+    LOT_STATUS_QUEUED = 4, // its call waits at the port `other`
+    LOT_STATUS_SERVED = 5, // the thread `other` serves it
+    LOT_STATUS_WAITING = 6, // it waits for the mutex `other`
+    LOT_STATUS_DEAD = 7, // it has ended
+    LOT_STATUS_ASLEEP = 8 // it sleeps until it is woken
+} lot_thread_status_kind;
+
+// What a ticket funds.
+typedef enum lot_target_kind LOT_OF_UINT32 {
+    LOT_TARGET_NONE = 0, // nothing; target_number is 0
+    LOT_TARGET_CURRENCY = 1, // target_number is the currency's, from 0
+    LOT_TARGET_THREAD = 2 // target_number is the thread's, from 1
+} lot_target_kind;
 
 // ---- names and wide numbers
 
@@ -351,46 +553,6 @@ static inline uint32_t lot_kernel_free(lot_kernel *kernel) {
 
 // ---- events
 
-// The kinds of events, with the fields that each reads. For each there is a function below that makes such an event.
-typedef enum lot_event_kind LOT_OF_UINT32 {
-    LOT_MAKE_TICKET = 1,     // amount (1 to 4294967295), currency
-    LOT_REMOVE_TICKET = 2,   // ticket
-    LOT_MAKE_CURRENCY = 3,   // name
-    LOT_REMOVE_CURRENCY = 4, // currency
-    LOT_FUND = 5,            // ticket, name: the currency or thread to be funded
-    LOT_UNFUND = 6,          // ticket
-    LOT_MAKE_THREAD = 7,     // name (or none), script (1 to `scripts`)
-    LOT_MAKE_FUNDED = 8,     // amount, currency, name (or none), script: a thread, and a new ticket that funds it
-    LOT_LIST_TICKETS = 9,    // no field; read a listing row by row with the calls below
-    LOT_LIST_CURRENCIES = 10,
-    LOT_LIST_THREADS = 11,
-    LOT_DRAW = 12,    // processor, number: a drawn number, any 128 bits
-    LOT_EXPIRE = 13,  // processor: the running thread's quantum is over, and the rest of it counts as used
-    LOT_YIELD = 14,   // processor, ticks. From here to LOT_SERVE, and LOT_SLEEP: traps of the running thread, after
-    LOT_CALL = 15,    // processor, ticks, object: a port, sent     `ticks` ticks of work; the trap costs one tick more
-    LOT_RECEIVE = 16, // processor, ticks, object: a port
-    LOT_REPLY = 17,   // processor, ticks, sent
-    LOT_LOCK = 18,    // processor, ticks, object: a mutex
-    LOT_UNLOCK = 19,  // processor, ticks, object: a mutex, number: a drawn number
-    LOT_EXIT = 20,    // processor, ticks
-    LOT_SERVE = 21,   // processor, ticks, object: a port, sent: a reply, and then a receive at the port
-    LOT_SET_TICKET = 22,    // ticket, amount (1 to 4294967295): inflation and deflation (3.2)
-    LOT_REMOVE_THREAD = 23, // name: a dead thread that no ticket funds, and that has no client and owns no mutex
-    LOT_SLEEP = 24,         // processor, ticks: a trap, as LOT_YIELD is
-    LOT_PREEMPT = 25,       // processor, ticks: the running thread loses its processor after `ticks` ticks of work
-    LOT_OVERRUN = 26,       // processor, ticks: the running thread's quantum is over, and ended `ticks` ticks late
-    LOT_WAKE = 27,          // object: a sleeping thread, by its number
-    // From here to LOT_MAKE_FUNDED_IN: commands from above, with the number of the currency or thread for its name.
-    LOT_MAKE_TICKET_IN = 28,           // amount, object: the currency
-    LOT_REMOVE_CURRENCY_NUMBERED = 29, // object: the currency
-    LOT_FUND_CURRENCY = 30,            // ticket, object: the currency to fund
-    LOT_FUND_THREAD = 31,              // ticket, object: the thread to fund
-    LOT_REMOVE_THREAD_NUMBERED = 32,   // object: the thread
-    LOT_MAKE_FUNDED_IN = 33,           // amount, object: the currency, name (or none), script
-    LOT_KILL = 34,                     // name: a thread that isn't dead
-    LOT_KILL_NUMBERED = 35             // object: such a thread, by its number
-} lot_event_kind;
-
 // An event. A struct that is all 0 has no kind.
 typedef struct lot_event {
     uint32_t kind; // lot_event_kind
@@ -406,8 +568,6 @@ typedef struct lot_event {
     lot_name name;
 } lot_event;
 
-// ---- events, made by functions
-
 // The event with these fields, in the order of lot_event. Only for this header. The compiler builds an expression in
 // place, whereas gcc would copy a variable that a function returns, which makes a draw slower.
 #ifdef __cplusplus
@@ -421,348 +581,233 @@ static inline lot_event lot_event_of(uint32_t kind) {
     return LOT_EVENT(kind, 0, 0, 0, 0, 0, {0, 0}, 0, 0, {0, {0}}, {0, {0}});
 }
 
-// Makes a ticket of this amount, 1 to 4294967295, issued in the currency. It funds nothing yet.
+// The functions below each make an event of one kind. They say the kind of its reply, or the outcome of its trap, and
+// its refusals in the order of the kernel's checks: the first check that fails is the reason. For a thread without a
+// name the kernel leaves out NAME_TAKEN.
+//
+// A trap is one of the thread that runs on the processor, after `ticks` ticks of work. The trap itself costs one tick
+// more, and all of these must fit in the rest of the quantum, or the event is refused with BAD_TICKS. Refusals after
+// BAD_TICKS are of the trap alone, LOT_OUTCOME_REFUSED: it costs its ticks even so.
+
+// ---- functions, made by bindings/write_tables of the same table
+
+// Makes a ticket of this amount, 1 to 4294967295, issued in the currency. It funds nothing yet. Reply: TICKET.
+// Refusals: BAD_AMOUNT, NO_CURRENCY, FULL.
 static inline lot_event lot_make_ticket(uint64_t amount, lot_name currency) {
     return LOT_EVENT(LOT_MAKE_TICKET, 0, 0, 0, 0, 0, {0, 0}, amount, 0, currency, {0, {0}});
 }
 
-// Makes a ticket of this amount, 1 to 4294967295, issued in the currency with this number. It funds nothing yet.
-static inline lot_event lot_make_ticket_in(uint64_t amount, uint32_t currency) {
-    return LOT_EVENT(LOT_MAKE_TICKET_IN, 0, 0, currency, 0, 0, {0, 0}, amount, 0, {0, {0}}, {0, {0}});
-}
-
-// Removes a ticket that funds nothing.
+// Removes a ticket that funds nothing. Its number is used again only with `reuse`. Reply: DONE. Refusals: NO_TICKET,
+// FUNDING.
 static inline lot_event lot_remove_ticket(uint64_t ticket) {
     return LOT_EVENT(LOT_REMOVE_TICKET, 0, 0, 0, 0, 0, {0, 0}, 0, ticket, {0, {0}}, {0, {0}});
 }
 
-// Sets a ticket's amount, 1 to 4294967295, which counts at once. The ticket keeps its target.
-static inline lot_event lot_set_ticket(uint64_t ticket, uint64_t amount) {
-    return LOT_EVENT(LOT_SET_TICKET, 0, 0, 0, 0, 0, {0, 0}, amount, ticket, {0, {0}}, {0, {0}});
-}
-
-// Removes the dead thread with this name, which no ticket funds, and which has no client and owns no mutex. Its name
-// may be used again, its number is only with `reuse`.
-static inline lot_event lot_remove_thread(lot_name thread) {
-    return LOT_EVENT(LOT_REMOVE_THREAD, 0, 0, 0, 0, 0, {0, 0}, 0, 0, {0, {0}}, thread);
-}
-
-// Removes the dead thread with this number, like lot_remove_thread.
-static inline lot_event lot_remove_thread_numbered(uint32_t thread) {
-    return LOT_EVENT(LOT_REMOVE_THREAD_NUMBERED, 0, 0, thread, 0, 0, {0, 0}, 0, 0, {0, {0}}, {0, {0}});
-}
-
-// Makes a currency with this name.
+// Makes a currency, with a name that neither a currency nor a thread has, a dead one included. Reply: CURRENCY.
+// Refusals: NAME_TAKEN, FULL.
 static inline lot_event lot_make_currency(lot_name name) {
     return LOT_EVENT(LOT_MAKE_CURRENCY, 0, 0, 0, 0, 0, {0, 0}, 0, 0, {0, {0}}, name);
 }
 
-// Removes a currency that issues no ticket and that no ticket funds.
+// Removes a currency other than base that issues no ticket and that no ticket funds. Reply: DONE. Refusals:
+// NO_CURRENCY, BASE_FIXED, IN_USE.
 static inline lot_event lot_remove_currency(lot_name currency) {
     return LOT_EVENT(LOT_REMOVE_CURRENCY, 0, 0, 0, 0, 0, {0, 0}, 0, 0, currency, {0, {0}});
 }
 
-// Removes the currency with this number, like lot_remove_currency.
-static inline lot_event lot_remove_currency_numbered(uint32_t currency) {
-    return LOT_EVENT(LOT_REMOVE_CURRENCY_NUMBERED, 0, 0, currency, 0, 0, {0, 0}, 0, 0, {0, {0}}, {0, {0}});
-}
-
-// Makes a ticket that funds nothing fund the currency or thread with this name.
+// Makes a ticket that funds nothing fund a currency other than base, or a thread that isn't dead. Reply: DONE.
+// Refusals: NO_TICKET, NO_TARGET, BASE_FIXED, DEAD_THREAD, FUNDING, CYCLE.
 static inline lot_event lot_fund(uint64_t ticket, lot_name target) {
     return LOT_EVENT(LOT_FUND, 0, 0, 0, 0, 0, {0, 0}, 0, ticket, {0, {0}}, target);
 }
 
-// Makes a ticket that funds nothing fund the currency with this number.
-static inline lot_event lot_fund_currency(uint64_t ticket, uint32_t currency) {
-    return LOT_EVENT(LOT_FUND_CURRENCY, 0, 0, currency, 0, 0, {0, 0}, 0, ticket, {0, {0}}, {0, {0}});
-}
-
-// Makes a ticket that funds nothing fund the thread with this number.
-static inline lot_event lot_fund_thread(uint64_t ticket, uint32_t thread) {
-    return LOT_EVENT(LOT_FUND_THREAD, 0, 0, thread, 0, 0, {0, 0}, 0, ticket, {0, {0}}, {0, {0}});
-}
-
-// Takes away the target of a ticket that funds something.
+// Takes away the target of a ticket that funds something. Reply: DONE. Refusals: NO_TICKET, NOT_FUNDING.
 static inline lot_event lot_unfund(uint64_t ticket) {
     return LOT_EVENT(LOT_UNFUND, 0, 0, 0, 0, 0, {0, 0}, 0, ticket, {0, {0}}, {0, {0}});
 }
 
-// Makes a thread with this name, or lot_no_name(), and this script, 1 to `scripts`. Nothing funds it yet.
+// Makes a thread, with a name or without. It is ready, and nothing funds it yet. Its script, 1 to `scripts`, is a
+// number that the kernel keeps for its caller. Reply: THREAD. Refusals: NAME_TAKEN, NO_SCRIPT, FULL.
 static inline lot_event lot_make_thread(lot_name name, uint32_t script) {
     return LOT_EVENT(LOT_MAKE_THREAD, 0, 0, 0, 0, script, {0, 0}, 0, 0, {0, {0}}, name);
 }
 
-// Makes a thread with this name, or lot_no_name(), and this script, 1 to `scripts`, and a ticket of this amount, 1 to
-// 4294967295, which is issued in the currency and funds the thread.
+// Makes a thread, with a name or without, and a ticket of this amount, 1 to 4294967295, which is issued in the
+// currency and funds the thread. Reply: FUNDED. Refusals: BAD_AMOUNT, NO_CURRENCY, NAME_TAKEN, NO_SCRIPT, FULL.
 static inline lot_event lot_make_funded(uint64_t amount, lot_name currency, lot_name name, uint32_t script) {
     return LOT_EVENT(LOT_MAKE_FUNDED, 0, 0, 0, 0, script, {0, 0}, amount, 0, currency, name);
 }
 
-// Makes a thread and a ticket that funds it, like lot_make_funded, given the number of the currency.
-static inline lot_event lot_make_funded_in(uint64_t amount, uint32_t currency, lot_name name, uint32_t script) {
-    return LOT_EVENT(LOT_MAKE_FUNDED_IN, 0, 0, currency, 0, script, {0, 0}, amount, 0, {0, {0}}, name);
-}
-
-// Ends the thread with this name, whatever its status. Its clients are ready, with nothing delivered. Each of its
-// mutexes passes to the thread that has waited longest for it. If it runs, its processor is idle then, and the thread
-// is charged nothing more: to charge what it ran, pass lot_preempt first.
-static inline lot_event lot_kill(lot_name thread) {
-    return LOT_EVENT(LOT_KILL, 0, 0, 0, 0, 0, {0, 0}, 0, 0, {0, {0}}, thread);
-}
-
-// Ends the thread with this number, like lot_kill.
-static inline lot_event lot_kill_numbered(uint32_t thread) {
-    return LOT_EVENT(LOT_KILL_NUMBERED, 0, 0, thread, 0, 0, {0, 0}, 0, 0, {0, {0}}, {0, {0}});
-}
-
-// Requests a listing of the tickets. The reply contains no rows: read them with lot_kernel_ticket_row.
+// Requests a listing of the tickets. The reply contains no rows: read them one by one. Reply: LIST_TICKETS. It is
+// never refused.
 static inline lot_event lot_list_tickets(void) {
     return LOT_EVENT(LOT_LIST_TICKETS, 0, 0, 0, 0, 0, {0, 0}, 0, 0, {0, {0}}, {0, {0}});
 }
 
-// Requests a listing of the currencies. The reply contains no rows: read them with lot_kernel_currency_row.
+// Requests a listing of the currencies. The reply contains no rows: read them one by one. Reply: LIST_CURRENCIES. It
+// is never refused.
 static inline lot_event lot_list_currencies(void) {
     return LOT_EVENT(LOT_LIST_CURRENCIES, 0, 0, 0, 0, 0, {0, 0}, 0, 0, {0, {0}}, {0, {0}});
 }
 
-// Requests a listing of the threads. The reply contains no rows: read them with lot_kernel_thread_row.
+// Requests a listing of the threads. The reply contains no rows: read them one by one. Reply: LIST_THREADS. It is
+// never refused.
 static inline lot_event lot_list_threads(void) {
     return LOT_EVENT(LOT_LIST_THREADS, 0, 0, 0, 0, 0, {0, 0}, 0, 0, {0, {0}}, {0, {0}});
 }
 
 // Holds a lottery over the ready threads with this number, any 128 bits. The winner runs on the processor, which must
-// be idle.
+// be idle. Reply: WINNER or IDLE. Refusals: BAD_PROCESSOR, BUSY.
 static inline lot_event lot_draw(uint32_t processor, lot_wide number) {
     return LOT_EVENT(LOT_DRAW, processor, 0, 0, 0, 0, number, 0, 0, {0, {0}}, {0, {0}});
 }
 
-// Ends the quantum of the thread that runs on the processor. The rest of the quantum counts as used.
+// Ends the quantum of the thread that runs on the processor. The rest of the quantum counts as used. Reply: EXPIRED.
+// Refusals: BAD_PROCESSOR, NOT_RUNNING.
 static inline lot_event lot_expire(uint32_t processor) {
     return LOT_EVENT(LOT_EXPIRE, processor, 0, 0, 0, 0, {0, 0}, 0, 0, {0, {0}}, {0, {0}});
 }
 
-// Preempts the thread that runs on the processor, after `ticks` ticks of work, which must fit in the rest of the
-// quantum. The thread becomes ready, without compensation.
-static inline lot_event lot_preempt(uint32_t processor, uint32_t ticks) {
-    return LOT_EVENT(LOT_PREEMPT, processor, ticks, 0, 0, 0, {0, 0}, 0, 0, {0, {0}}, {0, {0}});
-}
-
-// Ends the quantum of the thread that runs on the processor, `late` ticks after its time. The quantum and these ticks
-// together are at most 4294967295. The rest of the quantum and the late ticks count as used, so the thread weighs less
-// until it next wins a draw.
-static inline lot_event lot_overrun(uint32_t processor, uint32_t late) {
-    return LOT_EVENT(LOT_OVERRUN, processor, late, 0, 0, 0, {0, 0}, 0, 0, {0, {0}}, {0, {0}});
-}
-
-// Makes the sleeping thread with this number ready.
-static inline lot_event lot_wake(uint32_t thread) {
-    return LOT_EVENT(LOT_WAKE, 0, 0, thread, 0, 0, {0, 0}, 0, 0, {0, {0}}, {0, {0}});
-}
-
-// From here on: traps of the thread that runs on the processor, after `ticks` ticks of work. The trap itself costs one
-// tick more, and all of these must fit in the rest of the quantum.
-
-// The thread gives up its processor, and is compensated for the rest of its quantum.
+// Gives up the processor. The thread is compensated for the rest of its quantum. Outcome: YIELDED. Refusals:
+// BAD_PROCESSOR, NOT_RUNNING, BAD_TICKS.
 static inline lot_event lot_yield(uint32_t processor, uint32_t ticks) {
     return LOT_EVENT(LOT_YIELD, processor, ticks, 0, 0, 0, {0, 0}, 0, 0, {0, {0}}, {0, {0}});
 }
 
-// The thread sleeps until lot_wake, and is compensated for the rest of its quantum.
-static inline lot_event lot_sleep(uint32_t processor, uint32_t ticks) {
-    return LOT_EVENT(LOT_SLEEP, processor, ticks, 0, 0, 0, {0, 0}, 0, 0, {0, {0}}, {0, {0}});
-}
-
-// The thread sends a number to a port, and waits for a reply.
+// Sends a number to a port, and waits for the reply. The thread lends to the one that serves it; with `queued_lend`
+// also, while its call is queued, to the one that took the last call at the port. Outcome: SERVED_BY or QUEUED.
+// Refusals: BAD_PROCESSOR, NOT_RUNNING, BAD_TICKS, NO_PORT.
 static inline lot_event lot_call(uint32_t processor, uint32_t ticks, uint32_t port, uint32_t sent) {
     return LOT_EVENT(LOT_CALL, processor, ticks, port, sent, 0, {0, 0}, 0, 0, {0, {0}}, {0, {0}});
 }
 
-// The thread takes the call that has waited longest at a port. If there is none, it waits for one.
+// Takes the call that has waited longest at a port, or waits for one. Outcome: RECEIVED or WAITS. Refusals:
+// BAD_PROCESSOR, NOT_RUNNING, BAD_TICKS, NO_PORT.
 static inline lot_event lot_receive(uint32_t processor, uint32_t ticks, uint32_t port) {
     return LOT_EVENT(LOT_RECEIVE, processor, ticks, port, 0, 0, {0, 0}, 0, 0, {0, {0}}, {0, {0}});
 }
 
-// The thread replies with a number to the client that it took first: LOT_REPLY. (The struct has the name lot_reply.)
+// Replies with a number to the client that the thread took first. Outcome: REPLIED. Refusals: BAD_PROCESSOR,
+// NOT_RUNNING, BAD_TICKS, NOTHING_TO_REPLY.
 static inline lot_event lot_reply_with(uint32_t processor, uint32_t ticks, uint32_t sent) {
     return LOT_EVENT(LOT_REPLY, processor, ticks, 0, sent, 0, {0, 0}, 0, 0, {0, {0}}, {0, {0}});
 }
 
-// The thread replies with a number to the client that it took first, and then receives at a port.
-static inline lot_event lot_serve(uint32_t processor, uint32_t ticks, uint32_t port, uint32_t sent) {
-    return LOT_EVENT(LOT_SERVE, processor, ticks, port, sent, 0, {0, 0}, 0, 0, {0, {0}}, {0, {0}});
-}
-
-// The thread takes a mutex. If another thread owns it, it waits.
+// Takes a mutex, or waits for it and lends to its owner. Outcome: LOCKED or WAITS. Refusals: BAD_PROCESSOR,
+// NOT_RUNNING, BAD_TICKS, NO_MUTEX, ALREADY_OWNER, LOCK_CYCLE.
 static inline lot_event lot_lock(uint32_t processor, uint32_t ticks, uint32_t mutex) {
     return LOT_EVENT(LOT_LOCK, processor, ticks, mutex, 0, 0, {0, 0}, 0, 0, {0, {0}}, {0, {0}});
 }
 
-// The thread gives up a mutex. If others wait for it, a lottery with this number, any 128 bits, picks the new owner.
+// Frees a mutex, or passes it on to a waiter by a lottery with this number, any 128 bits. Outcome: FREED or PASSED.
+// Refusals: BAD_PROCESSOR, NOT_RUNNING, BAD_TICKS, NO_MUTEX, NOT_OWNER.
 static inline lot_event lot_unlock(uint32_t processor, uint32_t ticks, uint32_t mutex, lot_wide number) {
     return LOT_EVENT(LOT_UNLOCK, processor, ticks, mutex, 0, 0, number, 0, 0, {0, {0}}, {0, {0}});
 }
 
-// The thread ends. Its mutexes, its clients and the tickets that fund it stay as they are.
+// Ends the thread. Its name, its mutexes, its clients and the tickets that fund it stay as they are. Outcome: EXITED.
+// Refusals: BAD_PROCESSOR, NOT_RUNNING, BAD_TICKS.
 static inline lot_event lot_exit(uint32_t processor, uint32_t ticks) {
     return LOT_EVENT(LOT_EXIT, processor, ticks, 0, 0, 0, {0, 0}, 0, 0, {0, {0}}, {0, {0}});
 }
 
+// Replies with a number to the client that the thread took first, and then receives a call at a port or waits for one.
+// Outcome: REPLIED_THEN_RECEIVED or REPLIED_THEN_WAITS. Refusals: BAD_PROCESSOR, NOT_RUNNING, BAD_TICKS, NO_PORT,
+// NOTHING_TO_REPLY.
+static inline lot_event lot_serve(uint32_t processor, uint32_t ticks, uint32_t port, uint32_t sent) {
+    return LOT_EVENT(LOT_SERVE, processor, ticks, port, sent, 0, {0, 0}, 0, 0, {0, {0}}, {0, {0}});
+}
+
+// Sets a ticket's amount, 1 to 4294967295, which counts at once: inflation and deflation (3.2). The ticket keeps its
+// target. Reply: DONE. Refusals: BAD_AMOUNT, NO_TICKET.
+static inline lot_event lot_set_ticket(uint64_t ticket, uint64_t amount) {
+    return LOT_EVENT(LOT_SET_TICKET, 0, 0, 0, 0, 0, {0, 0}, amount, ticket, {0, {0}}, {0, {0}});
+}
+
+// Removes a dead thread that no ticket funds, and that has no client and owns no mutex. Its name may be used again,
+// its number only with `reuse`. Reply: DONE. Refusals: NO_THREAD, ALIVE, IN_USE.
+static inline lot_event lot_remove_thread(lot_name thread) {
+    return LOT_EVENT(LOT_REMOVE_THREAD, 0, 0, 0, 0, 0, {0, 0}, 0, 0, {0, {0}}, thread);
+}
+
+// Sleeps until a wake. The thread's tickets are inactive meanwhile; it keeps its mutexes and its clients, and is
+// compensated for the rest of its quantum. Outcome: SLEPT. Refusals: BAD_PROCESSOR, NOT_RUNNING, BAD_TICKS.
+static inline lot_event lot_sleep(uint32_t processor, uint32_t ticks) {
+    return LOT_EVENT(LOT_SLEEP, processor, ticks, 0, 0, 0, {0, 0}, 0, 0, {0, {0}}, {0, {0}});
+}
+
+// Preempts the thread that runs on the processor, after `ticks` ticks of work, at most the rest of its quantum. The
+// thread becomes ready, is charged these ticks, and isn't compensated. Reply: EXPIRED. Refusals: BAD_PROCESSOR,
+// NOT_RUNNING, BAD_TICKS.
+static inline lot_event lot_preempt(uint32_t processor, uint32_t ticks) {
+    return LOT_EVENT(LOT_PREEMPT, processor, ticks, 0, 0, 0, {0, 0}, 0, 0, {0, {0}}, {0, {0}});
+}
+
+// Ends the quantum of the thread that runs on the processor, `late` ticks after its time. The rest of the quantum and
+// the late ticks count as used: until the thread next wins, its weight is value * quantum / (quantum + late), rounded
+// down, but at least 1 if its value is. The quantum and the late ticks together are at most 4294967295. Reply:
+// EXPIRED. Refusals: BAD_PROCESSOR, NOT_RUNNING, BAD_TICKS.
+static inline lot_event lot_overrun(uint32_t processor, uint32_t late) {
+    return LOT_EVENT(LOT_OVERRUN, processor, late, 0, 0, 0, {0, 0}, 0, 0, {0, {0}}, {0, {0}});
+}
+
+// Makes a sleeping thread ready, with the compensation from when it went to sleep. Reply: DONE. Refusals: NO_THREAD,
+// NOT_ASLEEP.
+static inline lot_event lot_wake(uint32_t thread) {
+    return LOT_EVENT(LOT_WAKE, 0, 0, thread, 0, 0, {0, 0}, 0, 0, {0, {0}}, {0, {0}});
+}
+
+// The same as lot_make_ticket, given the number of the currency. Reply: TICKET. Refusals: BAD_AMOUNT, NO_CURRENCY,
+// FULL.
+static inline lot_event lot_make_ticket_in(uint64_t amount, uint32_t currency) {
+    return LOT_EVENT(LOT_MAKE_TICKET_IN, 0, 0, currency, 0, 0, {0, 0}, amount, 0, {0, {0}}, {0, {0}});
+}
+
+// The same as lot_remove_currency, given the number of the currency. Reply: DONE. Refusals: NO_CURRENCY, BASE_FIXED,
+// IN_USE.
+static inline lot_event lot_remove_currency_numbered(uint32_t currency) {
+    return LOT_EVENT(LOT_REMOVE_CURRENCY_NUMBERED, 0, 0, currency, 0, 0, {0, 0}, 0, 0, {0, {0}}, {0, {0}});
+}
+
+// The same as lot_fund, given the number of the currency. Reply: DONE. Refusals: NO_TICKET, NO_TARGET, BASE_FIXED,
+// FUNDING, CYCLE.
+static inline lot_event lot_fund_currency(uint64_t ticket, uint32_t currency) {
+    return LOT_EVENT(LOT_FUND_CURRENCY, 0, 0, currency, 0, 0, {0, 0}, 0, ticket, {0, {0}}, {0, {0}});
+}
+
+// The same as lot_fund, given the number of the thread. Reply: DONE. Refusals: NO_TICKET, NO_TARGET, DEAD_THREAD,
+// FUNDING.
+static inline lot_event lot_fund_thread(uint64_t ticket, uint32_t thread) {
+    return LOT_EVENT(LOT_FUND_THREAD, 0, 0, thread, 0, 0, {0, 0}, 0, ticket, {0, {0}}, {0, {0}});
+}
+
+// The same as lot_remove_thread, given the number of the thread. Reply: DONE. Refusals: NO_THREAD, ALIVE, IN_USE.
+static inline lot_event lot_remove_thread_numbered(uint32_t thread) {
+    return LOT_EVENT(LOT_REMOVE_THREAD_NUMBERED, 0, 0, thread, 0, 0, {0, 0}, 0, 0, {0, {0}}, {0, {0}});
+}
+
+// The same as lot_make_funded, given the number of the currency. Reply: FUNDED. Refusals: BAD_AMOUNT, NO_CURRENCY,
+// NAME_TAKEN, NO_SCRIPT, FULL.
+static inline lot_event lot_make_funded_in(uint64_t amount, uint32_t currency, lot_name name, uint32_t script) {
+    return LOT_EVENT(LOT_MAKE_FUNDED_IN, 0, 0, currency, 0, script, {0, 0}, amount, 0, {0, {0}}, name);
+}
+
+// Ends a thread, whatever its status. If it runs, its processor is idle then, and it is charged nothing more: to
+// charge what it ran, preempt it first. Its clients are ready, with nothing delivered. Each of its mutexes passes to
+// the thread that has waited longest for it. A thread that exits keeps its clients and its mutexes. Reply: DONE.
+// Refusals: NO_THREAD, DEAD_THREAD.
+static inline lot_event lot_kill(lot_name thread) {
+    return LOT_EVENT(LOT_KILL, 0, 0, 0, 0, 0, {0, 0}, 0, 0, {0, {0}}, thread);
+}
+
+// The same as lot_kill, given the number of the thread. Reply: DONE. Refusals: NO_THREAD, DEAD_THREAD.
+static inline lot_event lot_kill_numbered(uint32_t thread) {
+    return LOT_EVENT(LOT_KILL_NUMBERED, 0, 0, thread, 0, 0, {0, 0}, 0, 0, {0, {0}}, {0, {0}});
+}
+
 // ---- replies
 
-// The kinds of replies, with the fields that each sets. All other fields are 0.
-typedef enum lot_reply_kind LOT_OF_UINT32 {
-    LOT_REPLY_TICKET = 1,   // ticket: made
-    LOT_REPLY_CURRENCY = 2, // currency: made
-    LOT_REPLY_THREAD = 3,   // thread: made
-    LOT_REPLY_FUNDED = 4,   // ticket, thread: made
-    LOT_REPLY_DONE = 5,
-    LOT_REPLY_LIST_TICKETS = 6,
-    LOT_REPLY_LIST_CURRENCIES = 7,
-    LOT_REPLY_LIST_THREADS = 8,
-    LOT_REPLY_WINNER = 9,   // thread: runs now, goes_on; number, total, has_draw; sent, has_sent: delivered to it
-    LOT_REPLY_IDLE = 10,    // no ready thread has any weight, perhaps as values round to 0; nothing has changed
-    LOT_REPLY_EXPIRED = 11, // thread, ticks: its charge; also the reply to LOT_PREEMPT and LOT_OVERRUN
-    LOT_REPLY_TRAPPED = 12, // thread, ticks: its run; outcome; goes_on; ends: it would, but its quantum is used up
-    LOT_REPLY_REFUSED = 13  // reason; nothing has changed
-} lot_reply_kind;
-
-// The outcomes of traps, with the fields that each sets. lot_goes_on tells whether the thread still runs.
-typedef enum lot_outcome LOT_OF_UINT32 {
-    LOT_OUTCOME_YIELDED = 1,   // the thread no longer runs
-    LOT_OUTCOME_SERVED_BY = 2, // other: the thread that serves it; it no longer runs
-    LOT_OUTCOME_QUEUED = 3,    // it waits for a server, and no longer runs
-    LOT_OUTCOME_WAITS = 4,     // it waits for a call or a mutex, and no longer runs
-    LOT_OUTCOME_RECEIVED = 5,  // other: the client; sent, has_sent
-    LOT_OUTCOME_REPLIED = 6,   // other: the client
-    LOT_OUTCOME_LOCKED = 7,
-    LOT_OUTCOME_FREED = 8,
-    LOT_OUTCOME_PASSED = 9,   // other: the new owner; number, total, has_draw if a lottery was held; no longer runs
-    LOT_OUTCOME_EXITED = 10,  // it no longer runs
-    LOT_OUTCOME_REFUSED = 11, // reason; nothing has changed except its ticks
-    LOT_OUTCOME_REPLIED_THEN_RECEIVED = 12, // replied_to; other: the client whose call it took then; sent, has_sent
-    LOT_OUTCOME_REPLIED_THEN_WAITS = 13,    // replied_to; it waits for a call, and no longer runs
-    LOT_OUTCOME_SLEPT = 14                  // it sleeps, and no longer runs
-} lot_outcome;
-
-// Returns the outcome in words, for printing: a static string, "unknown outcome" for any other number.
-static inline const char *lot_outcome_text(uint32_t outcome) {
-    switch (LOT_CAST(lot_outcome, outcome)) {
-    case LOT_OUTCOME_YIELDED: return "yielded";
-    case LOT_OUTCOME_SERVED_BY: return "served by a thread";
-    case LOT_OUTCOME_QUEUED: return "queued at a port";
-    case LOT_OUTCOME_WAITS: return "waits";
-    case LOT_OUTCOME_RECEIVED: return "received a call";
-    case LOT_OUTCOME_REPLIED: return "replied";
-    case LOT_OUTCOME_LOCKED: return "locked a mutex";
-    case LOT_OUTCOME_FREED: return "freed a mutex";
-    case LOT_OUTCOME_PASSED: return "passed a mutex on";
-    case LOT_OUTCOME_EXITED: return "exited";
-    case LOT_OUTCOME_REFUSED: return "refused";
-    case LOT_OUTCOME_REPLIED_THEN_RECEIVED: return "replied, then received a call";
-    case LOT_OUTCOME_REPLIED_THEN_WAITS: return "replied, then waits";
-    case LOT_OUTCOME_SLEPT: return "sleeps";
-    }
-    return "unknown outcome";
-}
-
-// The reasons for refusing an event or a trap. The numbers are those of docs/FORMATS.md, as in the program's output.
-// The kernel checks in this order, and the first check that fails is the reason. For a thread without a name it
-// leaves out NAME_TAKEN:
-//
-//     LOT_MAKE_TICKET        BAD_AMOUNT, NO_CURRENCY, FULL
-//     LOT_REMOVE_TICKET      NO_TICKET, FUNDING
-//     LOT_SET_TICKET         BAD_AMOUNT, NO_TICKET
-//     LOT_REMOVE_THREAD      NO_THREAD, ALIVE, IN_USE
-//     LOT_KILL               NO_THREAD, DEAD_THREAD
-//     LOT_MAKE_CURRENCY      NAME_TAKEN, FULL
-//     LOT_REMOVE_CURRENCY    NO_CURRENCY, BASE_FIXED, IN_USE
-//     LOT_FUND               NO_TICKET, NO_TARGET, BASE_FIXED, DEAD_THREAD, FUNDING, CYCLE
-//     LOT_UNFUND             NO_TICKET, NOT_FUNDING
-//     LOT_MAKE_THREAD        NAME_TAKEN, NO_SCRIPT, FULL
-//     LOT_MAKE_FUNDED        BAD_AMOUNT, NO_CURRENCY, NAME_TAKEN, NO_SCRIPT, FULL
-//     the kinds by number    as by name; LOT_FUND_THREAD has neither BASE_FIXED nor CYCLE, LOT_FUND_CURRENCY no
-//                            DEAD_THREAD
-//     the three listings     never refused
-//     LOT_DRAW               BAD_PROCESSOR, BUSY
-//     LOT_EXPIRE             BAD_PROCESSOR, NOT_RUNNING
-//     LOT_PREEMPT            BAD_PROCESSOR, NOT_RUNNING, BAD_TICKS: more ticks than the quantum has left
-//     LOT_OVERRUN            BAD_PROCESSOR, NOT_RUNNING, BAD_TICKS: the quantum and these ticks are above 4294967295
-//     LOT_WAKE               NO_THREAD, NOT_ASLEEP
-//     each trap              BAD_PROCESSOR, NOT_RUNNING, BAD_TICKS; and then, as a refused trap (LOT_OUTCOME_REFUSED):
-//     LOT_CALL, LOT_RECEIVE  NO_PORT
-//     LOT_REPLY              NOTHING_TO_REPLY
-//     LOT_SERVE              NO_PORT, NOTHING_TO_REPLY
-//     LOT_LOCK               NO_MUTEX, ALREADY_OWNER, LOCK_CYCLE
-//     LOT_UNLOCK             NO_MUTEX, NOT_OWNER
-//     LOT_YIELD, LOT_SLEEP   no more
-//     LOT_EXIT               no more
-typedef enum lot_refusal LOT_OF_UINT32 {
-    LOT_REFUSAL_BAD_NAME = 1,    // never in a reply: the status is LOT_BAD_NAME or LOT_LONG_NAME
-    LOT_REFUSAL_NAME_TAKEN = 2,  // a currency or a thread, even a dead one, has the name; removed ones don't count
-    LOT_REFUSAL_NO_CURRENCY = 3, // no currency has the name or the number
-    LOT_REFUSAL_NO_TICKET = 4,   // no ticket has the number now
-    LOT_REFUSAL_NO_TARGET = 5,   // no currency or thread has the name, or none of that kind has the number
-    LOT_REFUSAL_BAD_AMOUNT = 6,  // 0 or above 4294967295
-    LOT_REFUSAL_IN_USE = 7,      // a ticket funds the currency or thread, or the currency issues one, or the thread has
-                                 // a client or owns a mutex
-    LOT_REFUSAL_FUNDING = 8,     // the ticket funds something
-    LOT_REFUSAL_NOT_FUNDING = 9, // the ticket funds nothing
-    LOT_REFUSAL_CYCLE = 10,      // currencies would fund each other in a cycle
-    LOT_REFUSAL_BASE_FIXED = 11, // base can't be removed or funded
-    LOT_REFUSAL_DEAD_THREAD = 12,   // the thread to fund or to kill is dead
-    LOT_REFUSAL_FULL = 13,          // `tickets`, `currencies` or `threads` of lot_sizes is reached, whichever the event
-                                    // adds to, by all ever made or, with `reuse`, by what exists
-    LOT_REFUSAL_NO_SCRIPT = 14,     // 0 or above the number of scripts
-    LOT_REFUSAL_NO_THREAD = 15,     // no thread has the name or the number; a dead one has both until it is removed
-    LOT_REFUSAL_ALIVE = 16,         // the thread isn't dead, though it may wait for good
-    LOT_REFUSAL_BAD_PROCESSOR = 20, // 0 or above the number of processors
-    LOT_REFUSAL_BUSY = 21,          // a thread runs on the processor
-    LOT_REFUSAL_NOT_RUNNING = 22,   // no thread runs on the processor
-    LOT_REFUSAL_BAD_TICKS = 23,     // the ticks of work, with the trap's own, are more than the quantum has left; or a
-                                    // quantum with the ticks that it ended late is above 4294967295
-    LOT_REFUSAL_NOT_ASLEEP = 24,    // the thread isn't asleep: it is ready, runs, waits or is dead
-    LOT_TRAP_REFUSAL_NO_PORT = 30,  // from here on for traps: 0 or above the number of ports
-    LOT_TRAP_REFUSAL_NOTHING_TO_REPLY = 32, // the thread serves no client
-    LOT_TRAP_REFUSAL_NO_MUTEX = 33,         // 0 or above the number of mutexes
-    LOT_TRAP_REFUSAL_NOT_OWNER = 34,        // the thread doesn't own the mutex
-    LOT_TRAP_REFUSAL_ALREADY_OWNER = 35,    // the thread owns the mutex
-    LOT_TRAP_REFUSAL_LOCK_CYCLE = 36        // the wait would close a cycle through no port's queue: a deadlock
-} lot_refusal;
-
-// Returns the reason in words, for printing: a static string, "unknown refusal" for any other number.
-static inline const char *lot_refusal_text(uint32_t reason) {
-    switch (LOT_CAST(lot_refusal, reason)) {
-    case LOT_REFUSAL_BAD_NAME: return "bad name";
-    case LOT_REFUSAL_NAME_TAKEN: return "the name is taken";
-    case LOT_REFUSAL_NO_CURRENCY: return "no such currency";
-    case LOT_REFUSAL_NO_TICKET: return "no such ticket";
-    case LOT_REFUSAL_NO_TARGET: return "no such currency or thread";
-    case LOT_REFUSAL_BAD_AMOUNT: return "the amount is out of its range";
-    case LOT_REFUSAL_IN_USE: return "the currency or thread is in use";
-    case LOT_REFUSAL_FUNDING: return "the ticket funds something";
-    case LOT_REFUSAL_NOT_FUNDING: return "the ticket funds nothing";
-    case LOT_REFUSAL_CYCLE: return "currencies would fund each other in a cycle";
-    case LOT_REFUSAL_BASE_FIXED: return "base can't be removed or funded";
-    case LOT_REFUSAL_DEAD_THREAD: return "the thread is dead";
-    case LOT_REFUSAL_FULL: return "the limit is used up";
-    case LOT_REFUSAL_NO_SCRIPT: return "no such script";
-    case LOT_REFUSAL_NO_THREAD: return "no such thread";
-    case LOT_REFUSAL_ALIVE: return "the thread isn't dead";
-    case LOT_REFUSAL_BAD_PROCESSOR: return "no such processor";
-    case LOT_REFUSAL_BUSY: return "a thread runs on the processor";
-    case LOT_REFUSAL_NOT_RUNNING: return "no thread runs on the processor";
-    case LOT_REFUSAL_BAD_TICKS: return "too many ticks";
-    case LOT_REFUSAL_NOT_ASLEEP: return "the thread isn't asleep";
-    case LOT_TRAP_REFUSAL_NO_PORT: return "no such port";
-    case LOT_TRAP_REFUSAL_NOTHING_TO_REPLY: return "the thread serves no client";
-    case LOT_TRAP_REFUSAL_NO_MUTEX: return "no such mutex";
-    case LOT_TRAP_REFUSAL_NOT_OWNER: return "the thread doesn't own the mutex";
-    case LOT_TRAP_REFUSAL_ALREADY_OWNER: return "the thread owns the mutex already";
-    case LOT_TRAP_REFUSAL_LOCK_CYCLE: return "the wait would close a cycle";
-    }
-    return "unknown refusal";
-}
-
+// A reply. Its kind, and the outcome of a trap, say which fields are set; all others are 0.
 typedef struct lot_reply {
     lot_wide number; // the drawn number of a lottery, below the total
     lot_wide total;  // the sum of a lottery's weights
@@ -809,13 +854,6 @@ LOT_NODISCARD uint32_t lot_kernel_run(lot_kernel *kernel, const lot_event *event
 
 // ---- rows of listings
 
-// What a ticket funds.
-typedef enum lot_target_kind LOT_OF_UINT32 {
-    LOT_TARGET_NONE = 0,     // nothing; target_number is 0
-    LOT_TARGET_CURRENCY = 1, // target_number: the currency, from 0
-    LOT_TARGET_THREAD = 2    // target_number: the thread, from 1
-} lot_target_kind;
-
 typedef struct lot_ticket_row {
     uint64_t value; // in base units; 0 if it is inactive
     uint32_t amount;
@@ -834,18 +872,6 @@ typedef struct lot_currency_row {
     uint32_t issued;        // the number of tickets that it issues, active or not
     lot_name name;
 } lot_currency_row;
-
-// The statuses of threads.
-typedef enum lot_thread_status_kind LOT_OF_UINT32 {
-    LOT_STATUS_READY = 1,
-    LOT_STATUS_RUNNING = 2,   // processor, used: the ticks of its quantum, below the quantum
-    LOT_STATUS_RECEIVING = 3, // other: the port at which it waits for a call
-    LOT_STATUS_QUEUED = 4,    // other: the port at which its call waits
-    LOT_STATUS_SERVED = 5,    // other: the thread that serves it
-    LOT_STATUS_WAITING = 6,   // other: the mutex that it waits for
-    LOT_STATUS_DEAD = 7,
-    LOT_STATUS_ASLEEP = 8 // until LOT_WAKE
-} lot_thread_status_kind;
 
 typedef struct lot_thread_status {
     uint32_t kind; // lot_thread_status_kind

@@ -624,28 +624,13 @@ class Taken(unittest.TestCase):
         self.assertEqual(lot.Event(12, processor=1, number=9), lot.events.draw(1, 9))
         self.assertRaises(ValueError, lot.Event, len(EventKind) + 1)
 
-    NAMED = {
-        EventKind.MAKE_TICKET_IN: "make_ticket",
-        EventKind.REMOVE_CURRENCY_NUMBERED: "remove_currency",
-        EventKind.REMOVE_THREAD_NUMBERED: "remove_thread",
-        EventKind.MAKE_FUNDED_IN: "make_funded",
-        EventKind.KILL_NUMBERED: "kill",
-        EventKind.YIELD: "yield_",
-    }
-
     def test_one_method_for_each_event(self):
-        """It has the name of its kind, and the parameters of the function that makes the event."""
-        for kind in EventKind:
-            name = self.NAMED.get(kind, kind.name.lower())
-            method, function = getattr(lot.Kernel, name), getattr(lot.events, name)
-            *fields, check = list(inspect.signature(method).parameters.values())[1:]
-            self.assertEqual(fields, list(inspect.signature(function).parameters.values()), name)
-            self.assertEqual((check.name, check.kind, check.default), ("check", inspect.Parameter.KEYWORD_ONLY, None))
-            self.assertTrue(method.__doc__ and function.__doc__)
-            wanted = ["currency" if it == "currency_number" else it for it in lot.events.READS[kind]]
-            if kind in (EventKind.REMOVE_THREAD, EventKind.KILL):
-                wanted = ["thread"]
-            self.assertEqual(sorted(field.name for field in fields), sorted(wanted), name)
+        """It has the name and the parameters of the function that makes the event."""
+        for name, function in inspect.getmembers(lot.events, inspect.isfunction):
+            if function.__module__ == "lot.events":
+                *fields, check = list(inspect.signature(getattr(lot.Kernel, name)).parameters.values())[1:]
+                self.assertEqual(fields, list(inspect.signature(function).parameters.values()), name)
+                self.assertEqual((check.name, check.kind, check.default), ("check", check.KEYWORD_ONLY, None))
 
     def test_name_or_number(self):
         """A str makes the event by name, and an int the one by number."""

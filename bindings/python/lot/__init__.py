@@ -25,7 +25,7 @@ places in which it looks for the shared object.
 
 from . import events
 from .errors import Error, LotError, Refused, RunError
-from .events import Event
+from .event import Event
 from .kernel import Kernel
 from .library import library_version
 from .lottery import ParkMiller, weight, winner

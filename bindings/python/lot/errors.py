@@ -7,7 +7,7 @@ from typing import TYPE_CHECKING, Any, Sequence
 from .numbers import Status
 
 if TYPE_CHECKING:
-    from .events import Event
+    from .event import Event
     from .records import Reply
 
 _TEXTS = {

@@ -2,32 +2,18 @@
 
 import threading
 from ctypes import Structure, byref, c_size_t, c_uint32, c_uint64
-from typing import Any, Iterable, List, NoReturn, Optional, Sequence, Union, cast
+from typing import Any, Iterable, List, NoReturn, Optional, Sequence, Union
 
 from . import events, library
 from .errors import Refused, RunError
-from .events import Event
+from .event import Event
 from .library import calls, must
 from .numbers import Status
 from .ranges import NARROW, checked
-from .records import (
-    CurrencyReply,
-    CurrencyRow,
-    ExpiredReply,
-    FundedReply,
-    Meter,
-    Reply,
-    Runner,
-    Sizes,
-    ThreadReply,
-    ThreadRow,
-    TicketReply,
-    TicketRow,
-    TrappedReply,
-)
+from .records import CurrencyRow, Meter, Reply, Runner, Sizes, ThreadRow, TicketRow
 
 
-class Kernel:
+class Kernel(events.Methods):
     """A kernel. It allocates all its memory when it is made, and frees it in `close` or at the end of a `with`.
 
     Its sizes are those of `Sizes`. It begins with the currency base alone. Each event has a method, which returns the
@@ -83,6 +69,39 @@ class Kernel:
     Reply(kind=ReplyKind.FUNDED, ticket=1, thread=1)
     Reply(kind=ReplyKind.FUNDED, ticket=2, thread=2)
     Reply(kind=ReplyKind.WINNER, thread=1, number=9, total=15)
+
+    A preemption before the quantum's end, an overrun after it, a sleep and a kill:
+
+    >>> with Kernel(quantum=100) as kernel:
+    ...     replies = kernel.run([events.make_funded("job", 10), events.draw(1, 0)])
+    ...     kernel.preempt(processor=1, ticks=30)
+    ...     kernel.thread_row(1).weight
+    ...     replies = kernel.run([events.draw(1, 0), events.overrun(processor=1, late=100)])
+    ...     kernel.thread_row(1).weight  # it ran for twice the quantum
+    ...     replies = kernel.run([events.draw(1, 0), events.sleep(1, 49)])
+    ...     kernel.thread_row(1).status.state, kernel.draw(1, 0).kind
+    ...     kernel.wake(1)
+    ...     kernel.draw(1, 19)  # it used half of its quantum, and so weighs twice its value
+    ...     kernel.kill("job")
+    ...     kernel.thread_row(1).status.state
+    Reply(kind=ReplyKind.EXPIRED, thread=1, ticks=30)
+    10
+    5
+    (ThreadState.ASLEEP, ReplyKind.IDLE)
+    Reply(kind=ReplyKind.DONE)
+    Reply(kind=ReplyKind.WINNER, thread=1, number=19, total=20)
+    Reply(kind=ReplyKind.DONE)
+    ThreadState.DEAD
+
+    A dead thread keeps its name, and is removed once no ticket funds it:
+
+    >>> with Kernel() as kernel:
+    ...     replies = kernel.run([events.make_funded("job", 10), events.draw(1, 0), events.exit(1)])
+    ...     kernel.remove_thread("job", check=False).refusal
+    ...     replies = kernel.run([events.unfund(1), events.remove_thread("job")])
+    ...     print(kernel.thread_row(1), kernel.make_funded("job", 10).thread)
+    Refusal.IN_USE
+    None 2
     """
 
     def __init__(
@@ -195,272 +214,6 @@ class Kernel:
 
     def _checks(self, check: Optional[bool]) -> bool:
         return self.check if check is None else check
-
-    def make_ticket(
-        self, amount: int, currency: Union[str, int] = "base", *, check: Optional[bool] = None
-    ) -> TicketReply:
-        """Makes a ticket of this amount, 1 to 4294967295, of the currency. It funds nothing yet. Replies `TICKET`.
-
-        Refused: BAD_AMOUNT, NO_CURRENCY, FULL.
-        """
-        return cast(TicketReply, self.event(events.make_ticket(amount, currency), check=check))
-
-    def remove_ticket(self, ticket: int, *, check: Optional[bool] = None) -> Reply:
-        """Removes a ticket that funds nothing. Replies `DONE`. Refused: NO_TICKET, FUNDING."""
-        return self.event(events.remove_ticket(ticket), check=check)
-
-    def set_ticket(self, ticket: int, amount: int, *, check: Optional[bool] = None) -> Reply:
-        """Inflation and deflation: sets the ticket's amount, 1 to 4294967295. The ticket keeps its target.
-
-        The amount counts at once. Replies `DONE`. Refused: BAD_AMOUNT, NO_TICKET.
-        """
-        return self.event(events.set_ticket(ticket, amount), check=check)
-
-    def make_currency(self, name: str, *, check: Optional[bool] = None) -> CurrencyReply:
-        """Makes a currency, with a name that neither a currency nor a thread has. Replies `CURRENCY`.
-
-        Refused: NAME_TAKEN, FULL.
-        """
-        return cast(CurrencyReply, self.event(events.make_currency(name), check=check))
-
-    def remove_currency(self, currency: Union[str, int], *, check: Optional[bool] = None) -> Reply:
-        """Removes a currency that issues no ticket and is funded by none. Replies `DONE`.
-
-        Refused: NO_CURRENCY, BASE_FIXED, IN_USE.
-        """
-        return self.event(events.remove_currency(currency), check=check)
-
-    def fund(self, ticket: int, target: str, *, check: Optional[bool] = None) -> Reply:
-        """Makes a ticket that funds nothing fund the currency or thread with this name. Replies `DONE`.
-
-        Refused: NO_TICKET, NO_TARGET, BASE_FIXED, DEAD_THREAD, FUNDING, CYCLE.
-        """
-        return self.event(events.fund(ticket, target), check=check)
-
-    def fund_currency(self, ticket: int, currency: int, *, check: Optional[bool] = None) -> Reply:
-        """Makes a ticket that funds nothing fund the currency with this number. Replies `DONE`.
-
-        Refused: NO_TICKET, NO_TARGET, BASE_FIXED, FUNDING, CYCLE.
-        """
-        return self.event(events.fund_currency(ticket, currency), check=check)
-
-    def fund_thread(self, ticket: int, thread: int, *, check: Optional[bool] = None) -> Reply:
-        """Makes a ticket that funds nothing fund the thread with this number. Replies `DONE`.
-
-        Refused: NO_TICKET, NO_TARGET, DEAD_THREAD, FUNDING.
-        """
-        return self.event(events.fund_thread(ticket, thread), check=check)
-
-    def unfund(self, ticket: int, *, check: Optional[bool] = None) -> Reply:
-        """Takes away a ticket's target. Replies `DONE`. Refused: NO_TICKET, NOT_FUNDING."""
-        return self.event(events.unfund(ticket), check=check)
-
-    def make_thread(self, name: Optional[str] = None, script: int = 1, *, check: Optional[bool] = None) -> ThreadReply:
-        """Makes an unfunded thread, with this name or none. Replies `THREAD`.
-
-        The script is a number that the kernel keeps for its caller. Refused: NAME_TAKEN, NO_SCRIPT, FULL.
-        """
-        return cast(ThreadReply, self.event(events.make_thread(name, script), check=check))
-
-    def remove_thread(self, thread: Union[str, int], *, check: Optional[bool] = None) -> Reply:
-        """Removes a dead thread that no ticket funds, and that has no client and owns no mutex.
-
-        Its name may be used again, its number only with `reuse`. Replies `DONE`. Refused: NO_THREAD, ALIVE, IN_USE.
-
-        >>> with Kernel() as kernel:
-        ...     replies = kernel.run([events.make_funded("job", 10), events.draw(1, 0), events.exit(1)])
-        ...     kernel.remove_thread("job", check=False).refusal
-        ...     replies = kernel.run([events.unfund(1), events.remove_thread("job")])
-        ...     print(kernel.thread_row(1), kernel.make_funded("job", 10).thread)
-        Refusal.IN_USE
-        None 2
-        """
-        return self.event(events.remove_thread(thread), check=check)
-
-    def kill(self, thread: Union[str, int], *, check: Optional[bool] = None) -> Reply:
-        """Ends the thread, whatever its status.
-
-        If it runs, its processor is idle then, and it is charged nothing more: to charge what it ran, preempt it first.
-        Its clients are ready, with nothing delivered. Each of its mutexes passes to the thread that has waited longest
-        for it. `exit` differs: a thread that exits keeps its clients and its mutexes.
-
-        Replies `DONE`. Refused: NO_THREAD, DEAD_THREAD.
-
-        >>> with Kernel() as kernel:
-        ...     replies = kernel.run([events.make_funded("stuck", 10), events.draw(1, 0)])
-        ...     kernel.preempt(processor=1, ticks=30)  # what it ran
-        ...     kernel.kill("stuck")
-        ...     row = kernel.thread_row(1)
-        ...     row.status.state, row.ticks, kernel.draw(1, 0).kind
-        Reply(kind=ReplyKind.EXPIRED, thread=1, ticks=30)
-        Reply(kind=ReplyKind.DONE)
-        (ThreadState.DEAD, 30, ReplyKind.IDLE)
-        """
-        return self.event(events.kill(thread), check=check)
-
-    def make_funded(
-        self,
-        name: Optional[str],
-        amount: int,
-        currency: Union[str, int] = "base",
-        script: int = 1,
-        *,
-        check: Optional[bool] = None,
-    ) -> FundedReply:
-        """Makes a thread, and a ticket of this amount of the currency, which funds the thread. Replies `FUNDED`.
-
-        The thread has this name, or none for `None`. Refused: BAD_AMOUNT, NO_CURRENCY, NAME_TAKEN, NO_SCRIPT, FULL.
-        """
-        return cast(FundedReply, self.event(events.make_funded(name, amount, currency, script), check=check))
-
-    def list_tickets(self, *, check: Optional[bool] = None) -> Reply:
-        """Replies `LIST_TICKETS`, and is never refused. `ticket_row` reads the rows."""
-        return self.event(events.list_tickets(), check=check)
-
-    def list_currencies(self, *, check: Optional[bool] = None) -> Reply:
-        """Replies `LIST_CURRENCIES`, and is never refused. `currency_row` reads the rows."""
-        return self.event(events.list_currencies(), check=check)
-
-    def list_threads(self, *, check: Optional[bool] = None) -> Reply:
-        """Replies `LIST_THREADS`, and is never refused. `thread_row` reads the rows."""
-        return self.event(events.list_threads(), check=check)
-
-    def draw(self, processor: int, number: int, *, check: Optional[bool] = None) -> Reply:
-        """Draws the thread to run next on the processor, with a number of 128 bits, such as `ParkMiller` gives.
-
-        Replies `WINNER`, or `IDLE` if no ready thread has any weight. Refused: BAD_PROCESSOR, BUSY.
-        """
-        return self.event(events.draw(processor, number), check=check)
-
-    def expire(self, processor: int, *, check: Optional[bool] = None) -> ExpiredReply:
-        """Ends the running thread's quantum. Replies `EXPIRED`. Refused: BAD_PROCESSOR, NOT_RUNNING."""
-        return cast(ExpiredReply, self.event(events.expire(processor), check=check))
-
-    def preempt(self, processor: int, ticks: int = 0, *, check: Optional[bool] = None) -> ExpiredReply:
-        """Preempts the running thread, after `ticks` ticks of work, before its quantum is over.
-
-        The thread becomes ready, is charged these ticks, and isn't compensated. Replies `EXPIRED`. Refused:
-        BAD_PROCESSOR, NOT_RUNNING, BAD_TICKS if the ticks are more than the rest of the quantum.
-
-        >>> with Kernel() as kernel:
-        ...     replies = kernel.run([events.make_funded("job", 10), events.draw(1, 0)])
-        ...     kernel.preempt(processor=1, ticks=30)
-        ...     kernel.thread_row(1).weight
-        Reply(kind=ReplyKind.EXPIRED, thread=1, ticks=30)
-        10
-        """
-        return cast(ExpiredReply, self.event(events.preempt(processor, ticks), check=check))
-
-    def overrun(self, processor: int, late: int, *, check: Optional[bool] = None) -> ExpiredReply:
-        """Ends the running thread's quantum, `late` ticks late. The late ticks count as used too.
-
-        Until it next wins it weighs value * quantum / (quantum + late), rounded down, but at least 1 if its value is.
-        Replies `EXPIRED`. Refused: BAD_PROCESSOR, NOT_RUNNING, BAD_TICKS if the sum of the quantum and the late ticks
-        is above 4294967295.
-
-        >>> with Kernel(quantum=100) as kernel:
-        ...     replies = kernel.run([events.make_funded("slow", 10), events.draw(1, 0)])
-        ...     kernel.overrun(processor=1, late=100)
-        ...     kernel.thread_row(1).weight
-        Reply(kind=ReplyKind.EXPIRED, thread=1, ticks=200)
-        5
-        """
-        return cast(ExpiredReply, self.event(events.overrun(processor, late), check=check))
-
-    def wake(self, thread: int, *, check: Optional[bool] = None) -> Reply:
-        """Makes the sleeping thread with this number ready, with the compensation from when it went to sleep.
-
-        Replies `DONE`. Refused: NO_THREAD, NOT_ASLEEP.
-        """
-        return self.event(events.wake(thread), check=check)
-
-    # The traps of the running thread. Each comes after `ticks` ticks of work, and costs one tick more. All are refused
-    # as events with BAD_PROCESSOR, NOT_RUNNING, and BAD_TICKS if these ticks are more than the rest of the quantum.
-
-    def yield_(self, processor: int, ticks: int = 0, *, check: Optional[bool] = None) -> TrappedReply:
-        """The running thread gives up its processor, after `ticks` ticks of work and one tick for the trap.
-
-        Replies `TRAPPED` with `YIELDED`. Refused: BAD_PROCESSOR, NOT_RUNNING, BAD_TICKS.
-        """
-        return cast(TrappedReply, self.event(events.yield_(processor, ticks), check=check))
-
-    def sleep(self, processor: int, ticks: int = 0, *, check: Optional[bool] = None) -> TrappedReply:
-        """The running thread sleeps until `wake`. Its tickets are inactive meanwhile.
-
-        It keeps its mutexes and its clients, and is compensated for the rest of its quantum.
-
-        Replies `TRAPPED` with `SLEPT`. Refused: BAD_PROCESSOR, NOT_RUNNING, BAD_TICKS.
-
-        >>> with Kernel(quantum=100) as kernel:
-        ...     replies = kernel.run([events.make_funded("driver", 10), events.draw(1, 0), events.sleep(1, 49)])
-        ...     kernel.thread_row(1).status.state, kernel.draw(1, 0).kind
-        ...     kernel.wake(1)
-        ...     kernel.draw(1, 19)  # it used half of its quantum, and so weighs twice its value
-        (ThreadState.ASLEEP, ReplyKind.IDLE)
-        Reply(kind=ReplyKind.DONE)
-        Reply(kind=ReplyKind.WINNER, thread=1, number=19, total=20)
-        """
-        return cast(TrappedReply, self.event(events.sleep(processor, ticks), check=check))
-
-    def call(
-        self, processor: int, port: int, sent: int, ticks: int = 0, *, check: Optional[bool] = None
-    ) -> TrappedReply:
-        """The running thread calls the port with a number, and lends to the thread that serves it until the reply.
-
-        With `queued_lend` it also lends while its call is queued, to the thread that took the last call at the port.
-
-        Replies `TRAPPED` with `SERVED_BY` or `QUEUED`. Refused: BAD_PROCESSOR, NOT_RUNNING, BAD_TICKS; NO_PORT.
-        """
-        return cast(TrappedReply, self.event(events.call(processor, port, sent, ticks), check=check))
-
-    def receive(self, processor: int, port: int, ticks: int = 0, *, check: Optional[bool] = None) -> TrappedReply:
-        """The running thread takes the call that has waited longest at the port, or waits for one.
-
-        Replies `TRAPPED` with `RECEIVED` or `WAITS`. Refused: BAD_PROCESSOR, NOT_RUNNING, BAD_TICKS; NO_PORT.
-        """
-        return cast(TrappedReply, self.event(events.receive(processor, port, ticks), check=check))
-
-    def reply(self, processor: int, sent: int, ticks: int = 0, *, check: Optional[bool] = None) -> TrappedReply:
-        """The running thread replies with a number to the client that it took first.
-
-        Replies `TRAPPED` with `REPLIED`. Refused: BAD_PROCESSOR, NOT_RUNNING, BAD_TICKS; NOTHING_TO_REPLY.
-        """
-        return cast(TrappedReply, self.event(events.reply(processor, sent, ticks), check=check))
-
-    def serve(
-        self, processor: int, port: int, sent: int, ticks: int = 0, *, check: Optional[bool] = None
-    ) -> TrappedReply:
-        """The running thread replies, and then receives at the port, in one trap.
-
-        Replies `TRAPPED` with `REPLIED_THEN_RECEIVED` or `REPLIED_THEN_WAITS`. Refused: BAD_PROCESSOR, NOT_RUNNING,
-        BAD_TICKS; NO_PORT, NOTHING_TO_REPLY.
-        """
-        return cast(TrappedReply, self.event(events.serve(processor, port, sent, ticks), check=check))
-
-    def lock(self, processor: int, mutex: int, ticks: int = 0, *, check: Optional[bool] = None) -> TrappedReply:
-        """The running thread takes the mutex, or waits for it and lends to its owner.
-
-        Replies `TRAPPED` with `LOCKED` or `WAITS`. Refused: BAD_PROCESSOR, NOT_RUNNING, BAD_TICKS; NO_MUTEX,
-        ALREADY_OWNER, LOCK_CYCLE.
-        """
-        return cast(TrappedReply, self.event(events.lock(processor, mutex, ticks), check=check))
-
-    def unlock(
-        self, processor: int, mutex: int, number: int, ticks: int = 0, *, check: Optional[bool] = None
-    ) -> TrappedReply:
-        """The running thread frees the mutex, or passes it to a waiter drawn with this number, of 128 bits.
-
-        Replies `TRAPPED` with `FREED` or `PASSED`. Refused: BAD_PROCESSOR, NOT_RUNNING, BAD_TICKS; NO_MUTEX,
-        NOT_OWNER.
-        """
-        return cast(TrappedReply, self.event(events.unlock(processor, mutex, number, ticks), check=check))
-
-    def exit(self, processor: int, ticks: int = 0, *, check: Optional[bool] = None) -> TrappedReply:
-        """The running thread ends, and is dead. Its tickets, mutexes and clients stay unchanged.
-
-        Replies `TRAPPED` with `EXITED`. Refused: BAD_PROCESSOR, NOT_RUNNING, BAD_TICKS.
-        """
-        return cast(TrappedReply, self.event(events.exit(processor, ticks), check=check))
 
     # ---- rows and counts
 

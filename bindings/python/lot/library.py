@@ -16,8 +16,8 @@ from typing import Dict, List, Optional, Tuple
 
 from . import records
 from .errors import LotError
-from .events import READS, Event
-from .numbers import Outcome, Refusal, ReplyKind, Status, TargetKind, ThreadState
+from .event import Event
+from .numbers import READS, Outcome, Refusal, ReplyKind, Status, TargetKind, ThreadState
 
 LOW_BITS = (1 << 64) - 1
 LONGEST_NAME = 16

@@ -1,6 +1,6 @@
 """The numbers of the kernel, by name. They are those of lot.h, in every language.
 
-`bindings/numbers` compares them with the table of the proofs.
+Made by `bindings/write_tables` of `crates/lot_c/specs/Numbers.antt`.
 
 >>> Refusal.NAME_TAKEN, int(Refusal.NAME_TAKEN)
 (Refusal.NAME_TAKEN, 2)
@@ -19,31 +19,26 @@ class Number(IntEnum):
 
 
 class Status(Number):
-    """The status of a call of the library. `LotError` has it."""
+    """The statuses of calls."""
 
-    DONE = 0
-    NO_KERNEL = 1  # the kernel is closed
-    KERNEL_THERE = 2  # never returned here: each `Kernel` has a handle of its own
+    DONE = 0  # done
+    NO_KERNEL = 1  # the handle holds no kernel
+    KERNEL_THERE = 2  # the handle holds a kernel already
     BAD_LIMITS = 3  # a size is out of its bounds
-    NO_MEMORY = 4
-    BAD_KIND = 5  # never returned here: an `Event` has one of the kinds
-    LONG_NAME = 6  # a name of more than 16 bytes
-    BAD_NAME = 7  # an empty name, or one with a byte that the kernel's names can't have
-    NOT_THERE = 8  # never raised here: the result is `None`
-    COUNTS_DIFFER = 9  # never returned here: a run has room for as many replies as events
-    BAD_SEED = 10  # a seed that is 0 or above 2147483646
-    NO_WINNER = 11  # never raised here: the result is `None`
-    TOO_LARGE = 12  # the weights sum to 2 ** 128 or more
-    NOT_SETTLED = 13  # never returned here: a row recomputes stale values
+    NO_MEMORY = 4  # out of memory
+    BAD_KIND = 5  # no such kind of event
+    LONG_NAME = 6  # a name has more than 16 bytes
+    BAD_NAME = 7  # a name is empty, or has a byte that names may not have
+    NOT_THERE = 8  # nothing has this number
+    COUNTS_DIFFER = 9  # not as many replies as events
+    BAD_SEED = 10  # a seed or a generator's value is 0 or above 2147483646
+    NO_WINNER = 11  # the weights sum to 0
+    TOO_LARGE = 12  # the weights sum to 2 ^ 128 or more
+    NOT_SETTLED = 13  # a value is stale, since an event may have changed it
 
 
 class EventKind(Number):
-    """The kinds of events. For each, `Kernel` has a method of its name, and `lot.events` a function.
-
-    Five have no method of their own: `make_ticket`, `remove_currency`, `remove_thread`, `make_funded` and `kill` make
-    events of the kinds `MAKE_TICKET_IN`, `REMOVE_CURRENCY_NUMBERED`, `REMOVE_THREAD_NUMBERED`, `MAKE_FUNDED_IN` and
-    `KILL_NUMBERED` when you pass a number in place of a name.
-    """
+    """The kinds of events. A kind by number has the effect and the refusals of that by name."""
 
     MAKE_TICKET = 1
     REMOVE_TICKET = 2
@@ -83,91 +78,151 @@ class EventKind(Number):
 
 
 class ReplyKind(Number):
-    """The kinds of replies, each with its fields of `Reply`."""
+    """The kinds of replies, with the fields that each sets."""
 
-    TICKET = 1  # ticket: made
-    CURRENCY = 2  # currency: made
-    THREAD = 3  # thread: made
-    FUNDED = 4  # ticket, thread: made
-    DONE = 5
-    LIST_TICKETS = 6
-    LIST_CURRENCIES = 7
-    LIST_THREADS = 8
-    WINNER = 9  # thread: runs now; number, total; sent: the number delivered to it, if any
-    IDLE = 10  # no ready thread has any weight, perhaps as values round to 0 (`Sizes`); nothing has changed
-    EXPIRED = 11  # thread, ticks: its charge; also the reply to a preemption and to an overrun
-    TRAPPED = 12  # thread, ticks: its run; outcome, with its fields; ends, goes_on
-    REFUSED = 13  # refusal
+    TICKET = 1  # ticket: its number. A ticket was made.
+    CURRENCY = 2  # currency: its number. A currency was made.
+    THREAD = 3  # thread: its number. A thread was made.
+    # ticket: the ticket's number; thread: the thread's number. A thread and the ticket that funds it were made.
+    FUNDED = 4
+    DONE = 5  # The event is done.
+    LIST_TICKETS = 6  # A listing was requested. Read the rows one by one.
+    LIST_CURRENCIES = 7  # A listing was requested. Read the rows one by one.
+    LIST_THREADS = 8  # A listing was requested. Read the rows one by one.
+    # thread: its number; number: the drawn number, below the total; total: the sum of the weights, in base units;
+    # sent: the number sent to the thread while it waited, by a call or a reply. A thread won the draw, and runs on the
+    # processor.
+    WINNER = 9
+    IDLE = 10  # No ready thread has any weight, perhaps as values round to 0, and nothing has changed.
+    # thread: its number; ticks: the ticks that it is charged. A thread's quantum is over, or it was preempted, and it
+    # no longer runs.
+    EXPIRED = 11
+    # thread: its number; ticks: the ticks that it ran since its last event, the trap's own included; outcome: the
+    # trap's outcome; ends: whether its quantum is used up, so that it no longer runs though the outcome would let it
+    # go on; goes_on: whether it runs on, since its outcome leaves it on its processor and its quantum isn't used up. A
+    # thread made a trap.
+    TRAPPED = 12
+    REFUSED = 13  # refusal: the refusal. The event is refused, and has changed nothing.
 
 
 class Outcome(Number):
-    """The outcomes of traps, each with its fields of `Reply`."""
+    """The outcomes of traps, with the fields that each sets."""
 
-    YIELDED = 1  # the thread no longer runs
-    SERVED_BY = 2  # other: the thread that serves it; it no longer runs
-    QUEUED = 3  # it waits for a server, and no longer runs
-    WAITS = 4  # it waits for a call or a mutex, and no longer runs
-    RECEIVED = 5  # other: the client; sent
-    REPLIED = 6  # other: the client
-    LOCKED = 7
-    FREED = 8
-    PASSED = 9  # other: the mutex's new owner; number, total if a lottery was held; it no longer runs
-    EXITED = 10  # it no longer runs
-    REFUSED = 11  # refusal
-    REPLIED_THEN_RECEIVED = 12  # replied_to; other: the client whose call it took then; sent
-    REPLIED_THEN_WAITS = 13  # replied_to; it waits for a call, and no longer runs
-    SLEPT = 14  # it sleeps, and no longer runs
+    YIELDED = 1  # The thread gave up the rest of its quantum. It no longer runs.
+    SERVED_BY = 2  # other: the thread that serves the call. The caller no longer runs.
+    QUEUED = 3  # The call waits for a server. The caller no longer runs.
+    WAITS = 4  # The thread waits for a call or for a mutex. It no longer runs.
+    RECEIVED = 5  # other: the thread that called; sent: the number that it sent. A call was taken.
+    REPLIED = 6  # other: the client. A client got a reply.
+    LOCKED = 7  # The thread owns the mutex.
+    FREED = 8  # The mutex is free.
+    # other: the new owner; number, total: the number and the total of the lottery, if one was held: not if the waiters
+    # were worth nothing, so that the one that had waited longest got the mutex. The mutex was passed on. The thread
+    # that unlocked it no longer runs.
+    PASSED = 9
+    EXITED = 10  # The thread has ended.
+    REFUSED = 11  # refusal: the refusal. The trap is refused. It cost its ticks even so.
+    # replied_to: the client that got the reply; other: the thread that called; sent: the number that it sent. A client
+    # got a reply, and then a call was taken.
+    REPLIED_THEN_RECEIVED = 12
+    # replied_to: the client that got the reply. The thread waits for a call. It no longer runs.
+    REPLIED_THEN_WAITS = 13
+    SLEPT = 14  # The thread sleeps until it is woken. It no longer runs.
 
 
 class Refusal(Number):
-    """The reasons for refusing an event or, from 30 on, a trap."""
+    """The reasons for refusing an event or, from 30 on, a trap. A refused trap costs its ticks even so."""
 
-    BAD_NAME = 1  # never in a reply: such a name raises `LotError`
-    NAME_TAKEN = 2  # a currency or a thread, even a dead one, has the name; removed ones don't count
+    BAD_NAME = 1  # the kernel doesn't take such a name. For C and Python that is a status.
+    NAME_TAKEN = 2  # a currency or a thread, perhaps a dead one, has the name already. Removed ones don't count.
     NO_CURRENCY = 3  # no currency has the name or the number
-    NO_TICKET = 4  # no ticket has the number now
-    NO_TARGET = 5  # no currency or thread has the name, or none of that kind has the number
-    BAD_AMOUNT = 6  # 0 or above 4294967295
-    IN_USE = 7  # a ticket funds it or, of a currency, is issued in it; or the thread has a client or owns a mutex
-    FUNDING = 8  # the ticket has a target
-    NOT_FUNDING = 9  # the ticket has no target
-    CYCLE = 10  # funding would make a cycle
-    BASE_FIXED = 11  # base can't be removed or funded
-    DEAD_THREAD = 12  # the thread to fund or to kill is dead
-    FULL = 13  # `tickets`, `currencies` or `threads` of `Sizes` is reached, whichever the event adds to
-    NO_SCRIPT = 14  # the script's number is 0 or above the number of scripts
-    NO_THREAD = 15  # no thread has the name or the number; a dead one has both until it is removed
-    ALIVE = 16  # the thread isn't dead, though it may wait for good
-    BAD_PROCESSOR = 20  # 0 or above the number of processors
-    BUSY = 21  # a thread runs there
-    NOT_RUNNING = 22  # no thread runs there
-    BAD_TICKS = 23  # more ticks than the rest of the quantum, or a quantum with its late ticks above 4294967295
-    NOT_ASLEEP = 24  # the thread isn't asleep: it is ready, runs, waits or is dead
-    # A refused trap costs its ticks even so.
-    NO_PORT = 30  # 0 or above the number of ports
+    NO_TICKET = 4  # no ticket has the number
+    NO_TARGET = 5  # no currency or thread has the name or the number
+    BAD_AMOUNT = 6  # the amount is 0 or above 4294967295
+    IN_USE = 7  # tickets are in it or fund it, or the thread has a client or owns a mutex
+    FUNDING = 8  # the ticket funds something already
+    NOT_FUNDING = 9  # the ticket funds nothing
+    CYCLE = 10  # the funding would close a cycle of currencies
+    BASE_FIXED = 11  # base can be neither removed nor funded
+    DEAD_THREAD = 12  # the thread has ended
+    # the kernel has room for no more of them. `tickets`, `currencies` or `threads` of the sizes is reached, whichever
+    # the event adds to, by all ever made or, with `reuse`, by what exists.
+    FULL = 13
+    NO_SCRIPT = 14  # no script has the number
+    NO_THREAD = 15  # no thread has the name or the number. A dead one has both until it is removed.
+    ALIVE = 16  # the thread hasn't ended. It may wait for good.
+    BAD_PROCESSOR = 20  # no processor has the number
+    BUSY = 21  # a thread runs on the processor already
+    NOT_RUNNING = 22  # no thread runs on the processor
+    BAD_TICKS = 23  # the ticks are more than the quantum has left, or than may be counted. A trap's own tick counts.
+    NOT_ASLEEP = 24  # the thread doesn't sleep. It is ready, runs, waits or is dead.
+    NO_PORT = 30  # no port has the number
     NOTHING_TO_REPLY = 32  # the thread serves no client
-    NO_MUTEX = 33  # 0 or above the number of mutexes
+    NO_MUTEX = 33  # no mutex has the number
     NOT_OWNER = 34  # the thread doesn't own the mutex
-    ALREADY_OWNER = 35  # the thread owns it
-    LOCK_CYCLE = 36  # waiting would close a cycle of lends through no port's queue
-
-
-class TargetKind(Number):
-    """What a ticket funds. `TicketRow` has it, with the number."""
-
-    NONE = 0
-    CURRENCY = 1
-    THREAD = 2
+    ALREADY_OWNER = 35  # the thread owns the mutex already
+    # the wait would close a cycle of threads that wait for each other. Calls that are queued at a port don't count.
+    LOCK_CYCLE = 36
 
 
 class ThreadState(Number):
-    """The statuses of threads, each with its fields of `ThreadStatus`."""
+    """The statuses of threads, with the fields that each sets."""
 
-    READY = 1
-    RUNNING = 2  # processor; used: the ticks of its quantum, below the quantum
-    RECEIVING = 3  # other: the port at which it waits for a call
-    QUEUED = 4  # other: the port at which its call waits
-    SERVED = 5  # other: the thread that serves it
-    WAITING = 6  # other: the mutex that it waits for
-    DEAD = 7
-    ASLEEP = 8  # until it is woken
+    READY = 1  # it competes in draws
+    RUNNING = 2  # it runs on `processor`, and has used `used` ticks of its quantum, below the quantum
+    RECEIVING = 3  # it waits for a call at the port `other`
+    QUEUED = 4  # its call waits at the port `other`
+    SERVED = 5  # the thread `other` serves it
+    WAITING = 6  # it waits for the mutex `other`
+    DEAD = 7  # it has ended
+    ASLEEP = 8  # it sleeps until it is woken
+
+
+class TargetKind(Number):
+    """What a ticket funds."""
+
+    NONE = 0  # nothing; target_number is 0
+    CURRENCY = 1  # target_number is the currency's, from 0
+    THREAD = 2  # target_number is the thread's, from 1
+
+
+# The fields of `Event` that each kind reads.
+READS = {
+    EventKind.MAKE_TICKET: ("amount", "currency"),
+    EventKind.REMOVE_TICKET: ("ticket",),
+    EventKind.MAKE_CURRENCY: ("name",),
+    EventKind.REMOVE_CURRENCY: ("currency",),
+    EventKind.FUND: ("ticket", "target"),
+    EventKind.UNFUND: ("ticket",),
+    EventKind.MAKE_THREAD: ("name", "script"),
+    EventKind.MAKE_FUNDED: ("amount", "currency", "name", "script"),
+    EventKind.LIST_TICKETS: (),
+    EventKind.LIST_CURRENCIES: (),
+    EventKind.LIST_THREADS: (),
+    EventKind.DRAW: ("processor", "number"),
+    EventKind.EXPIRE: ("processor",),
+    EventKind.YIELD: ("processor", "ticks"),
+    EventKind.CALL: ("processor", "ticks", "port", "sent"),
+    EventKind.RECEIVE: ("processor", "ticks", "port"),
+    EventKind.REPLY: ("processor", "ticks", "sent"),
+    EventKind.LOCK: ("processor", "ticks", "mutex"),
+    EventKind.UNLOCK: ("processor", "ticks", "mutex", "number"),
+    EventKind.EXIT: ("processor", "ticks"),
+    EventKind.SERVE: ("processor", "ticks", "port", "sent"),
+    EventKind.SET_TICKET: ("ticket", "amount"),
+    EventKind.REMOVE_THREAD: ("name",),
+    EventKind.SLEEP: ("processor", "ticks"),
+    EventKind.PREEMPT: ("processor", "ticks"),
+    EventKind.OVERRUN: ("processor", "late"),
+    EventKind.WAKE: ("thread",),
+    EventKind.MAKE_TICKET_IN: ("amount", "currency_number"),
+    EventKind.REMOVE_CURRENCY_NUMBERED: ("currency_number",),
+    EventKind.FUND_CURRENCY: ("ticket", "currency_number"),
+    EventKind.FUND_THREAD: ("ticket", "thread"),
+    EventKind.REMOVE_THREAD_NUMBERED: ("thread",),
+    EventKind.MAKE_FUNDED_IN: ("amount", "currency_number", "name", "script"),
+    EventKind.KILL: ("name",),
+    EventKind.KILL_NUMBERED: ("thread",),
+}
+# The kinds that make a thread, which may have no name.
+NAMELESS = (EventKind.MAKE_THREAD, EventKind.MAKE_FUNDED, EventKind.MAKE_FUNDED_IN)

@@ -1,6 +1,6 @@
 //! Failures of calls.
 
-use crate::numbers::CallStatus;
+use crate::generated::CallStatus;
 use std::fmt;
 
 /// The failure of a call. A failed call has changed nothing.

@@ -2,7 +2,7 @@
 //!
 //! `lot_kernel_run` is left out: it goes on after a refused event, and `Kernel::run` doesn't.
 
-use crate::numbers::CallStatus;
+use crate::generated::CallStatus;
 use crate::{Error, Meter, Runner, Sizes};
 use std::ffi::c_void;
 use std::mem::{align_of, size_of};

@@ -5,6 +5,7 @@
 mod error;
 mod event;
 mod ffi;
+mod generated;
 mod kernel;
 mod lottery;
 mod name;
@@ -17,14 +18,13 @@ mod settled;
 mod sizes;
 
 pub use error::Error;
-pub use event::{Action, Command, Event, Listing};
+pub use event::{Event, Listing};
+pub use generated::{Action, Command, EventRefusal, Outcome, Reply, TrapRefusal};
 pub use kernel::{Kernel, Meter, Replies, Runner};
 pub use lottery::{weight, winner, Drawn, ParkMiller};
 pub use name::Name;
-pub use numbers::{EventRefusal, TrapRefusal};
 pub use reference::{CurrencyRef, TargetRef, ThreadRef};
 pub use refusal::{Refusal, Stopped};
-pub use reply::{Outcome, Reply};
 pub use rows::{CurrencyRow, Status, Target, ThreadRow, TicketRow};
 pub use settled::Settled;
 pub use sizes::Sizes;

@@ -1,7 +1,7 @@
 //! The lottery by itself, without a kernel.
 
 use crate::ffi::{self, Wide};
-use crate::numbers::CallStatus;
+use crate::generated::CallStatus;
 use crate::Error;
 use std::iter::FusedIterator;
 use std::num::NonZeroU32;

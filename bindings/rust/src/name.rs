@@ -83,6 +83,11 @@ impl Name {
         ffi::Name { length: u32::from(self.length), bytes: self.bytes }
     }
 
+    /// The name of a new thread in the archive's form: no bytes for none.
+    pub(crate) fn raw_of(name: Option<Name>) -> ffi::Name {
+        name.map_or_else(ffi::Name::default, Name::raw)
+    }
+
     /// The name with these bytes, if this call of the archive takes them.
     fn read(bytes: &[u8], call: ffi::NewName) -> Result<Name, Error> {
         let mut name = ffi::Name::default();

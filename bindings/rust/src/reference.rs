@@ -1,6 +1,6 @@
 //! References of a command to a currency, a thread or a target.
 
-use crate::numbers::EventKind;
+use crate::generated::EventKind;
 use crate::{ffi, Name, Target};
 
 /// A currency, by its name or by its number. A lookup by number reads one place of a table, one by name an index.
@@ -61,12 +61,13 @@ impl ThreadRef {
 }
 
 impl TargetRef {
-    /// The event that makes the ticket fund this target.
-    pub(crate) fn funding(self, ticket: u64) -> ffi::Event {
+    /// The event of the first kind if the target is named, and of the second or the third if it is a currency or a
+    /// thread by its number.
+    pub(crate) fn event(self, named: EventKind, currency: EventKind, thread: EventKind) -> ffi::Event {
         match self {
-            TargetRef::Named(name) => ffi::Event { ticket, name: name.raw(), ..EventKind::Fund.event() },
-            TargetRef::Currency(object) => ffi::Event { object, ticket, ..EventKind::FundCurrency.event() },
-            TargetRef::Thread(object) => ffi::Event { object, ticket, ..EventKind::FundThread.event() },
+            TargetRef::Named(name) => ffi::Event { name: name.raw(), ..named.event() },
+            TargetRef::Currency(object) => ffi::Event { object, ..currency.event() },
+            TargetRef::Thread(object) => ffi::Event { object, ..thread.event() },
         }
     }
 }

@@ -1,7 +1,6 @@
 //! Refusals of events and traps.
 
-use crate::numbers::{EventRefusal, TrapRefusal};
-use crate::Reply;
+use crate::{EventRefusal, Reply, TrapRefusal};
 use std::error::Error;
 use std::fmt;
 
@@ -54,47 +53,6 @@ impl fmt::Display for Refusal {
             Refusal::Event(why) => why.fmt(f),
             Refusal::Trap(why) => why.fmt(f),
         }
-    }
-}
-
-impl fmt::Display for EventRefusal {
-    fn fmt(&self, f: &mut fmt::Formatter<'_>) -> fmt::Result {
-        f.write_str(match self {
-            EventRefusal::BadName => "the kernel doesn't take such a name",
-            EventRefusal::NameTaken => "a currency or a thread, perhaps a dead one, has the name already",
-            EventRefusal::NoCurrency => "no currency has the name or the number",
-            EventRefusal::NoTicket => "no ticket has the number",
-            EventRefusal::NoTarget => "no currency or thread has the name or the number",
-            EventRefusal::BadAmount => "the amount is 0 or above 4294967295",
-            EventRefusal::InUse => "tickets are in it or fund it, or the thread has a client or owns a mutex",
-            EventRefusal::Funding => "the ticket funds something already",
-            EventRefusal::NotFunding => "the ticket funds nothing",
-            EventRefusal::Cycle => "the funding would close a cycle of currencies",
-            EventRefusal::BaseFixed => "base can be neither removed nor funded",
-            EventRefusal::DeadThread => "the thread has ended",
-            EventRefusal::Full => "the kernel has room for no more of them",
-            EventRefusal::NoScript => "no script has the number",
-            EventRefusal::NoThread => "no thread has the name or the number",
-            EventRefusal::Alive => "the thread hasn't ended",
-            EventRefusal::BadProcessor => "no processor has the number",
-            EventRefusal::Busy => "a thread runs on the processor already",
-            EventRefusal::NotRunning => "no thread runs on the processor",
-            EventRefusal::BadTicks => "the ticks are more than the quantum has left, or than may be counted",
-            EventRefusal::NotAsleep => "the thread doesn't sleep",
-        })
-    }
-}
-
-impl fmt::Display for TrapRefusal {
-    fn fmt(&self, f: &mut fmt::Formatter<'_>) -> fmt::Result {
-        f.write_str(match self {
-            TrapRefusal::NoPort => "no port has the number",
-            TrapRefusal::NothingToReply => "the thread serves no client",
-            TrapRefusal::NoMutex => "no mutex has the number",
-            TrapRefusal::NotOwner => "the thread doesn't own the mutex",
-            TrapRefusal::AlreadyOwner => "the thread owns the mutex already",
-            TrapRefusal::LockCycle => "the wait would close a cycle of threads that wait for each other",
-        })
     }
 }
 

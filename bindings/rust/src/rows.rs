@@ -1,6 +1,6 @@
 //! Rows of listings.
 
-use crate::numbers::{StatusKind, TargetKind};
+use crate::generated::{StatusKind, TargetKind};
 use crate::{ffi, Name};
 
 /// What a ticket funds, by its number. It is also a [`TargetRef`](crate::TargetRef).

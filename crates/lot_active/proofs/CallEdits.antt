@@ -1,4 +1,4 @@
--- What the calls of a graph are to what is kept for it.
+-- The calls of a graph as edits of its activity.
 use Rattle.lot_active.proofs.Common.{Activity, AddsEdge, AwakeAre, Bool, Currency, Edge, EdgeEnds, FitsLimits, IsKept, IsKeptFor, IsLive, IsMutex, IsSound, Layout, Lend, LimitedFunding, List, Mutex, Net, Nobody, Node, None, OfLender, OfMutex, OfTicket, Option, Some, Target, Thread, Ticket, ap, at_number, edge_between, false, graph_net, inl, inr, layout_of, lend_node, length-set, number-push, owner_of, refl, set_number, subst, sym, target_node, ticket_at, true, with_amount, with_currencies, with_lends, with_new_ticket, with_owners, with_target, with_tickets, without_ticket, ℕ, [], ◌++◌, ◌-◌, ◌∙◌, ◌∷◌, ◌≡◌, ◌⊎◌}
 use Rattle.lot_machine.specs.declared.ticket.Target.TheVariants as target
 use Rattle.lot_active.proofs.Edits.{HasMore, fund-adds, unfund-adds, lend-adds, unlend-adds, own-adds, disown-adds, issue-same, again-same, destroy-same, set_amount-same, thread-same}

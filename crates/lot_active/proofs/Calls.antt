@@ -1,4 +1,4 @@
--- How a call begins and ends.
+-- The start and the end of a call.
 use Rattle.lot_active.proofs.Common.{Activity, Adds, AddsUp, Adjusts, AllEmpty, Bool, Changes, Contains, EdgePlaces, HasMoved, HasNoCycle, Held, In, IsFree, IsKept, IsListed, IsNet, IsSized, Layout, List, Net, NodeLists, None, Noted, Option, Reaches, Relists, SetsAwake, Some, Spreading, amount_at, ap, arith, awake_at, cases_eq, contains-nothing, false, get_or-set_other, get_or-set_same, held_at, inl, inr, is_on, leads_to, leads_to_passed, length, length-replicate, nat_lt, nodes_of, not, on_at, part, refl, replicate, set_at, subst, suc, sum_below, sym, true, zero, ℕ, [], ◌+◌, ◌<◌, ◌^◌, ◌||◌, ◌∙◌, ◌≡◌, ◌≤◌, ◌⊎◌}
 use Rattle.lot_active.proofs.Sums.{amount-same, amount-added}
 use Rattle.lot_active.proofs.Local.{IsLocal, local-kept}

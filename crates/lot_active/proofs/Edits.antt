@@ -1,4 +1,4 @@
--- What each change of a funding is to its net: one edge more, one edge less, or nothing.
+-- Each change of a funding as an edit of its net: one edge more, one edge less, or none.
 use Rattle.lot_active.proofs.Common.{Adds, AddsEdge, AwakeAre, Bool, Currency, Edge, EdgeEnds, EdgePlaces, FitsLimits, Funding, IsAwake, IsLive, IsNodeWithin, Layout, Lend, LimitedFunding, List, Mutex, Net, Nobody, Node, None, OfLender, OfMutex, OfTicket, Option, Some, Target, Thread, Ticket, ap, arith, at_number, at_number-suc, cases_eq, counted_amount, edge-back, edge_at, edge_between, edge_count, edge_place, ends_of, ends_of_edge, flatten-some, fun_ext, graph_net, inl, inr, layout_of, lend_node, length, net_of, node_count, node_place, number-push, number-set, number-there, option_and_then, option_flatten, option_map, owner_of, pair, place-back, places_of_edge, places_of_ends, refl, reissued, retargeted, set_number, slice_get, slice_get_within, slice_set, some-injective, subst, suc, sym, target_node, ticket_at, ticket_in, true, unwrap_or, with_amount, with_new_ticket, with_target, without_ticket, zero, ℕ, [], ◌++◌, ◌-◌, ◌<◌, ◌∙◌, ◌∷◌, ◌≡◌, ◌≤◌, ◌⊎◌}
 use Rattle.lot_machine.specs.declared.ticket.Target.TheVariants as target
 use Rattle.lot_active.proofs.Lists.{set-same, set-other}

@@ -1,4 +1,4 @@
--- Where a node stands in the lists.
+-- The places of nodes in the lists.
 use Rattle.lot_active.proofs.Common.{All, Bool, Contains, Contains-append_left, Contains-append_right, Contains-push_cases, EdgePlaces, EntersAt, HasEachOnce, IfNone, In, IsConsistent, IsFree, IsListed, List, Net, NodeLists, None, Option, Relists, Some, ap, append_assoc, arith, beq, cases_eq, cases_lt, contains-at, contains-nothing, false, get_or-set_other, get_or-set_same, get_or_past, inl, inr, is_some, left-before, length, length-append, node_at, nodes_of, not, place-in, refl, remove, slice_get, slice_set, still-left, subst, suc, sym, true, with_pushed, with_removed, zero, ℕ, [], ◌++◌, ◌+◌, ◌<◌, ◌∙◌, ◌∷◌, ◌≡◌, ◌⊎◌}
 
 -- ---- membership

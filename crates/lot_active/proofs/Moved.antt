@@ -1,4 +1,4 @@
--- An edge that leads elsewhere: from one active node to another.
+-- An edge that moves from one active node to another.
 use Rattle.lot_active.proofs.Common.{Activity, Adds, AddsEdge, Bool, ChangesNodes, Contains, Edge, EdgeEnds, EdgePlaces, FitsLimits, IsKeptFor, IsLive, IsNodeWithin, IsSound, Layout, LimitedFunding, List, Net, Node, Option, Reaches, Some, Thread, ap, cases_eq, contains-nothing, edge_place, graph_net, inl, inr, is_on, layout_of, leads_to_passed, mark_of, node_count, node_place, part, places_of_ends, refl, subst, sum_below, sym, true, ℕ, [], ◌∙◌, ◌≡◌, ◌⊎◌}
 use Rattle.lot_active.proofs.Local.{IsLocal, awake-on, kept-local, local-kept}
 use Rattle.lot_active.proofs.Sums.{sum-same}

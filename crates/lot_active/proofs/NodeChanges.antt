@@ -1,4 +1,4 @@
--- What a call changed, by nodes.
+-- The changes of a call, by nodes.
 use Rattle.lot_active.proofs.Common.{Activity, AdjustsNode, AwakeAre, Bool, Changes, ChangesNodes, Contains, Currency, Edge, EdgePlaces, FitsIn, Funding, HasEachOnce, IsActiveNode, IsEdgeWithin, IsKeptFor, IsNodeOf, IsNodeWithin, IsTrue, IsWay, Layout, Lend, LimitedFunding, List, Mutex, Nobody, Node, None, OfLender, OfMutex, OfTicket, Option, Some, SwitchesNode, Tells, Thread, ToMutex, ToThread, active_amount, adjusted_nodes, amount_from, amount_of, ap, ap₂, arith, at_number, awake_at, borrower, cases_lt, cond, contains-at, contains-mapped, counted_amount, edge-back, edge-low, edge_at, edge_count, edge_place, ends-lender, ends-mutex, ends_of, false, get_or_past, graph_net, inl, inr, is_backed, is_backed-exact, layout_of, leads_to, leads_to_passed, lend_node, lender-ends, list-back, map, mapped-at, mapped-contains, mark_of, mutex-ends, nat_lt, net_of, node-back, node_amount, node_count, node_of, node_place, option_and_then, option_any, option_map, owner_of, part, place-back, places_of_edge, refl, same-list, subst, suc, sum_below, switched_nodes, sym, ticket-ends, true, zero, ℕ, [], ◌+◌, ◌<◌, ◌||◌, ◌↔◌, ◌∙◌, ◌∷◌, ◌≡◌, ◌≢◌, ◌≤◌, ◌⊎◌}
 use Rattle.lot_machine.specs.Facts as facts
 use Rattle.lot_graph.specs.Graphs.{Reaches}

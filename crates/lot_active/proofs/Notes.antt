@@ -1,4 +1,4 @@
--- How each step keeps what is true while a change spreads.
+-- Each step preserves the invariants while a change spreads.
 use Rattle.lot_active.proofs.Common.{AddsUp, Adjusts, Bool, Contains, Contains-append_left, Contains-append_right, Contains-push_cases, Crossing, EdgePlaces, HasMoved, Held, In, IsFree, IsListed, IsNet, IsSized, List, MayMove, Net, NodeLists, Noted, NotesChange, Reaches, Settles, Some, Spreading, amount_at, amount_from, ap, arith, awake_at, cases_eq, cases_lt, cond, contains-nothing, eq-eqb, false, get_or-set_other, get_or-set_same, held_at, inl, inr, le-ltb, length, lt-ltb, moved, nat_lt, ne_eqb, nodes_of, not, on_at, refl, set_at, subst, sym, true, zero, ℕ, [], ◌++◌, ◌<◌, ◌||◌, ◌∙◌, ◌∷◌, ◌≡◌, ◌⊎◌}
 use Rattle.lot_active.proofs.Sums.{amount-more, amount-else, amount-fits}
 use Rattle.lot_active.proofs.Lists.{Place, listed-place, free-or-listed}

@@ -1,4 +1,4 @@
--- Sums over edges, and how one edge more or less changes them.
+-- Sums over edges, with one edge more or less.
 use Rattle.lot_active.proofs.Common.{Bool, EdgePlaces, IsNet, Net, None, Option, Some, amount_from, ap, arith, cases_eq, cases_lt, cond, eq-eqb, false, inl, inr, ne_eqb, part, refl, subst, suc, sum_below, sym, true, zero, ℕ, ◌*◌, ◌+◌, ◌<◌, ◌^◌, ◌∙◌, ◌≡◌, ◌≤◌, ◌⊎◌}
 
 -- ---- sums of numbers

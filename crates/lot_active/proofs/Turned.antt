@@ -1,4 +1,4 @@
--- What a call shows that wakes a node or puts it to sleep.
+-- The result of a call that wakes a node or puts it to sleep.
 use Rattle.lot_active.proofs.Common.{Activity, AllEmpty, Bool, Changes, ChangesNodes, HasNoCycle, Held, IsKept, IsKeptFor, IsNet, IsSized, IsThread, Layout, LimitedFunding, List, Net, SetsAwake, Spreading, Thread, ap, arith, graph_net, layout_of, length, node_count, node_place, nodes_of, refl, set_number, slice_set, subst, sym, ℕ, [], ◌<◌, ◌∙◌, ◌≡◌, ◌≤◌}
 use Rattle.lot_active.proofs.Bridge.{kept-lives, kept-place, thread-low, thread-within}
 use Rattle.lot_active.proofs.Calls.{awake-spreads, end-changes_from, end-kept, local-by}

@@ -1,4 +1,4 @@
--- Ways of the net against chains of tickets and of lends.
+-- Paths of the net against chains of tickets and of lends.
 use Rattle.lot_active.proofs.Common.{AwakeAre, Bool, ChainLeads, Currency, Edge, FitsIn, Funding, HasNoCycle, IsActive, IsActiveNode, IsAwake, IsBacked, IsChain, IsLendChain, IsLive, IsNodeWithin, IsWay, Layout, Lend, LendsLead, LendsOnTo, LendsTo, List, Mutex, Nobody, Node, None, OfLender, OfMutex, OfTicket, Option, Some, Target, Thread, Ticket, ToMutex, ToThread, ap, at_number, borrower, edge_at, ends-lender, ends-mutex, ends-ticket, ends_of, inl, inr, issuer-of, issuer_of, lend_node, lender-ends, mutex-ends, net_of, node_place, option_and_then, owner_of, refl, same-list, some-injective, subst, sym, target-of, target_node, target_of, ticket-ends, ticket-of, ticket_at, ℕ, [], ◌∙◌, ◌∷◌, ◌≡◌, ◌⊎◌}
 use Rattle.lot_machine.specs.declared.ticket.Target.TheVariants as target
 use Rattle.lot_machine.specs.Facts as facts

@@ -1,4 +1,4 @@
--- Active nodes and edges, by definition, and the activity as the contracts of `Active` see it.
+-- Active nodes and edges, by definition, and the activity in the contracts of `Active`.
 use Rattle.std.specs.Prelude.{◌≡◌, ℕ, zero, suc, ◌+◌, ◌==◌, ◌↔◌, nat_lt, Bool, true, false, ◌||◌, ◌&&◌, ◌⊎◌, Option, Some, None, List, Contains, IsTrue, length, slice_get, slice_index, slice_index_or, if◌then◌else◌}
 use Rattle.lot_active.specs.declared.edge_ends.EdgePlaces.{EdgePlaces}
 use Rattle.lot_active.specs.Nets.{Net, Reaches}
@@ -11,8 +11,7 @@ use Rattle.lot_graph.specs.Graphs.{HasEachOnce}
 abbrev pub IsAwake : List Bool → ℕ → Type 0
 IsAwake awake n = slice_get awake n ≡ Some true
 
--- A chain of edges, perhaps empty, leads from the node to one that is awake. An edge is active if the node to which
--- it leads is.
+-- A chain of edges, perhaps empty, leads from the node to an awake one. An edge is active if its target is.
 abbrev pub IsActive : Net → List Bool → ℕ → Type 0
 IsActive g awake n = (m : ℕ) × Reaches g n m × IsAwake awake m
 
@@ -21,8 +20,7 @@ abbrev pub sum_below : ℕ → (ℕ → ℕ) → ℕ
 sum_below zero f = 0
 sum_below (suc m) f = sum_below m f + f m
 
--- an edge's part in the amount of a node: its own amount if it exists, is counted and leaves the node, and otherwise
--- 0
+-- an edge's part in the amount of a node: its own amount if it exists, counts and leaves the node, otherwise 0
 abbrev pub part : Option EdgePlaces → Bool → ℕ → ℕ
 part None counted n = 0
 part (Some a) counted n = if counted && (a.from == n) then a.amount else 0
@@ -31,12 +29,12 @@ part (Some a) counted n = if counted && (a.from == n) then a.amount else 0
 abbrev pub amount_from : Net → (ℕ → Bool) → ℕ → ℕ
 amount_from g counted n = sum_below g.edges (λ e. part (g.places e) (counted e) n)
 
--- whether the edge exists and the node to which it leads passes the test
+-- whether the edge exists and its target passes the test
 abbrev pub leads_to_passed : (ℕ → Bool) → Option EdgePlaces → Bool
 leads_to_passed test None = false
 leads_to_passed test (Some a) = test a.to
 
--- whether the edge with this number exists and the node to which it leads passes the test
+-- whether the edge with this number exists and its target passes the test
 abbrev pub leads_to : Net → (ℕ → Bool) → ℕ → Bool
 leads_to g test e = leads_to_passed test (g.places e)
 
@@ -48,7 +46,7 @@ Tells g awake test = (n : ℕ) → IsTrue (test n) ↔ IsActive g awake n
 abbrev pub IsActiveAmount : Net → List Bool → ℕ → ℕ → Type 0
 IsActiveAmount g awake n amount = (test : ℕ → Bool) × Tells g awake test × (amount ≡ amount_from g (leads_to g test) n)
 
--- ---- the kept activity
+-- ---- the activity of a graph
 
 -- the layout; for each node, whether it is awake, and its amount; the nodes that the last call switched on or off,
 -- and those of which it changed only the amount
@@ -79,7 +77,7 @@ mark_of v n = is_on v.awake v.amounts n
 abbrev pub amount_of : Activity → ℕ → ℕ
 amount_of v n = amount_at v.amounts n
 
--- The kept marks and amounts are those of the definitions, at each node.
+-- The marks and amounts are those of the definitions, at each node.
 pub record IsKept (g : Net) (v : Activity) : Type 0 where
   pub awake_length : length v.awake ≡ g.nodes
   pub amounts_length : length v.amounts ≡ g.nodes

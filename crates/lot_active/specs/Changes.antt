@@ -1,4 +1,4 @@
--- Active nodes, and those that a call changes, in terms of the machine's definitions.
+-- Active nodes, and the nodes that a call changes, in terms of the machine's definitions.
 use Rattle.std.specs.Prelude.{◌≢◌, ◌⊎◌, ◌↔◌, ◌≡◌, ℕ, Bool, Some, List, Contains, map, if◌then◌else◌}
 use Rattle.lot_machine.specs.declared.funding.Node.{Node}
 use Rattle.lot_machine.specs.declared.funding.Node.TheVariants.{Currency, Thread, Mutex}
@@ -10,13 +10,13 @@ use Rattle.lot_graph.specs.Graphs.{LimitedFunding, IsNodeOf, HasEachOnce, Reache
 use Rattle.lot_graph.specs.Places.{node_of, layout_of}
 use Rattle.lot_active.specs.Activity.{Activity}
 
--- the node is active: a ticket that the currency issues is, the thread is backed, or the mutex's owner is
+-- the node is active: the currency issues an active ticket, the thread is backed, or the mutex's owner is
 abbrev pub IsActiveNode : Funding → List Bool → Node → Type 0
 IsActiveNode f live (Currency c) = (n : ℕ) × (issuer_of f n ≡ Some c) × IsActive f live n
 IsActiveNode f live (Thread t) = IsBacked f live t
 IsActiveNode f live (Mutex m) = (owner : ℕ) × (owner_of f m ≡ Some owner) × IsBacked f live owner
 
--- The sum of the amounts of the active edges out of a node: a ticket's edge counts its amount, another edge 1.
+-- The sum of the amounts of the active edges out of a node. A ticket's edge counts its amount, another edge 1.
 abbrev pub node_amount : Funding → List Bool → Node → ℕ
 node_amount f live (Currency c) = active_amount f live c
 node_amount f live (Thread t) = if option_any (is_backed f live) (borrower_of f t) then 1 else 0
@@ -39,8 +39,8 @@ switched_nodes w v = map (node_of (layout_of w)) v.switched
 abbrev pub adjusted_nodes : LimitedFunding → Activity → List Node
 adjusted_nodes w v = map (node_of (layout_of w)) v.adjusted
 
--- The lists hold exactly the switched and the adjusted nodes, each once, and a path leads from each to the node where
--- the change began.
+-- The lists hold exactly the switched and the adjusted nodes, each once. A path leads from each to the node where the
+-- change began.
 pub record ChangesNodes (before : LimitedFunding) (live : List Bool) (now : LimitedFunding) (after : List Bool) (begun : Node) (v : Activity) : Type 0 where
   pub switched : HasEachOnce (switched_nodes now v) (λ node. IsNodeOf now node × SwitchesNode before.funding live now.funding after node)
   pub adjusted : HasEachOnce (adjusted_nodes now v) (λ node. IsNodeOf now node × AdjustsNode before.funding live now.funding after node)

@@ -1,4 +1,4 @@
--- The activity kept for a graph; adding one edge; and a funding as a net, with its nodes and edges by place.
+-- The activity of a graph; adding one edge; and a funding as a net, with its nodes and edges by place.
 use Rattle.std.specs.Prelude.{◌≡◌, ℕ, Bool, Option, Some, None, List, option_map, unwrap_or}
 use Rattle.lot_machine.specs.declared.funding.Node.{Node}
 use Rattle.lot_machine.specs.declared.funding.Node.TheVariants.{Thread}
@@ -57,7 +57,7 @@ pub record IsKeptFor (v : Activity) (w : LimitedFunding) (live : List Bool) : Ty
   pub awake : AwakeAre (layout_of w) live v.awake
   pub kept : IsKept (graph_net w) v
 
--- The second graph has this edge, which the first doesn't have; all other edges are equal.
+-- The second graph has this edge in addition; all other edges are equal.
 pub record AddsEdge (less more : LimitedFunding) (edge : Edge) (ends : EdgeEnds) : Type 0 where
   pub layout : layout_of more ≡ layout_of less
   pub none : ends_of_edge less.funding edge ≡ None

@@ -6,7 +6,7 @@ use Rattle.lot_active.specs.Nets.{Net, Reaches}
 use Rattle.lot_active.specs.Activity.{amount_from}
 use Rattle.lot_active.specs.Held.{Held, In, on_at, held_at}
 
--- y is x after a move: greater if edges are switched on, and less if they are switched off
+-- y is x after a move: greater if edges are switched on, less if they are switched off
 abbrev pub HasMoved : Bool → ℕ → ℕ → Type 0
 HasMoved true x y = x < y
 HasMoved false x y = y < x
@@ -15,8 +15,8 @@ HasMoved false x y = y < x
 abbrev pub set_at : (ℕ → Bool) → ℕ → Bool → ℕ → Bool
 set_at f k b n = if n == k then b else f n
 
--- The list of each node, from its mark and amount when the call began and now. Published is the mark by which the
--- edges into the node were counted.
+-- The list of each node, by its mark and amount at the start of the call and now. Published is the mark by which the
+-- edges into the node counted.
 pub record Noted (g : Net) (seed : ℕ) (on : Bool) (was now : Held) (published : ℕ → Bool) : Type 0 where
   pub pending : (n : ℕ) → In now.lists 0 n → (published n ≡ not on) × (on_at now n ≡ on) × (on_at was n ≡ not on)
   pub agrees : (n : ℕ) → ¬ In now.lists 0 n → published n ≡ on_at now n
@@ -29,7 +29,7 @@ pub record Noted (g : Net) (seed : ℕ) (on : Bool) (was now : Held) (published 
 abbrev pub AddsUp : Net → Held → (ℕ → Bool) → Type 0
 AddsUp g h counted = (n : ℕ) → held_at h n ≡ amount_from g counted n
 
--- between two nodes: each edge counts if and only if the node to which it leads is published as on
+-- between two nodes: each edge counts if and only if its target is published as on
 pub record Spreading (g : Net) (seed : ℕ) (on : Bool) (was now : Held) : Type 0 where
   pub published : ℕ → Bool
   pub counted : ℕ → Bool
@@ -37,7 +37,7 @@ pub record Spreading (g : Net) (seed : ℕ) (on : Bool) (was now : Held) : Type 
   pub adds_up : AddsUp g now counted
   pub follows : (e : ℕ) (a : EdgePlaces) → g.places e ≡ Some a → counted e ≡ published a.to
 
--- while the edges into node x are processed, some of which are done
+-- in the middle of a node's edges: those into node x that are done count by its new mark
 pub record Crossing (g : Net) (seed : ℕ) (on : Bool) (was now : Held) (x : ℕ) (done : List ℕ) : Type 0 where
   pub published : ℕ → Bool
   pub counted : ℕ → Bool

@@ -23,7 +23,7 @@ use lot_machine::{Edge, Node, Target};
 use std::alloc::{AllocError, Global};
 use std::marker::Model;
 
-/// The live threads, the tickets and threads that are therefore active, and for each currency the sum of the amounts
+/// The live threads, the tickets and threads that are active through them, and for each currency the sum of the amounts
 /// of its active tickets.
 #[derive(Drop)]
 pub struct Active {
@@ -50,7 +50,7 @@ impl Model for Active {
 }
 
 impl Active {
-    /// The activity of a graph in which no thread is live.
+    /// The activity of a graph without live threads. It fails only if out of memory.
     pub fn new(alloc: Global, graph: &Graph) -> Result<Self, AllocError>
         ensures kept { IfOk result (λ made. (live : List Bool) → ((t : ℕ) → ¬ IsLive live t)
             → IsKeptFor made graph.now live) }
@@ -63,21 +63,21 @@ impl Active {
         })
     }
 
-    /// The total of bytes that `new` requests from the allocator, for a graph with this layout.
+    /// The number of bytes that `new` requests from the allocator for a graph with this layout.
     pub fn bytes(layout: Layout) -> u64
         ensures { result ≡ 21 * node_count layout + 24 }
     {
         Marks::bytes(layout.node_count())
     }
 
-    /// The bytes that it has room for: those that `new` requested, whatever has happened since.
+    /// The capacity in bytes: always exactly what `new` requested.
     pub fn held(&self) -> u64
         ensures { result ≡ 21 * length self.now.amounts + 24 }
     {
         self.marks.held()
     }
 
-    /// Whether a ticket with this target is active, in each graph for which this activity is kept.
+    /// Whether a ticket with this target is active, in each graph to which this activity belongs.
     pub fn is_active(&self, target: Target) -> bool
         requires target { (w : LimitedFunding) × (live : List Bool) × (ticket : ℕ) × IsKeptFor self.now w live
             × (target_of w.funding ticket ≡ Some target) }
@@ -90,8 +90,8 @@ impl Active {
         }
     }
 
-    /// Whether a chain of lends, perhaps empty, leads from a thread to a live one, in each graph for which this
-    /// activity is kept.
+    /// Whether a chain of lends, perhaps empty, leads from a thread to a live one, in each graph to which this activity
+    /// belongs.
     pub fn is_backed(&self, thread: u32) -> bool
         requires thread { (w : LimitedFunding) × (live : List Bool) × IsKeptFor self.now w live
             × IsThread w.funding thread }
@@ -101,7 +101,7 @@ impl Active {
         self.is_on(self.layout.list_of(Node::Thread(thread)))
     }
 
-    /// The sum of the amounts of a currency's active tickets, in each graph for which this activity is kept.
+    /// The sum of the amounts of a currency's active tickets, in each graph to which this activity belongs.
     pub fn active_amount(&self, currency: u32) -> u64
         requires currency { (w : LimitedFunding) × (live : List Bool) × IsKeptFor self.now w live
             × (currency ≤ w.currency_limit) }
@@ -111,7 +111,7 @@ impl Active {
         self.amount(currency as usize)
     }
 
-    /// Makes a thread live, or not.
+    /// Makes a thread live, or ends that.
     #[inline(always)]
     pub fn set_live(&mut self, graph: &Graph, thread: u32, live: bool)
         requires thread { IsThread graph.now.funding thread }
@@ -125,7 +125,7 @@ impl Active {
         self.set_awake(graph, node, live);
     }
 
-    /// Takes account of an edge added to the graph.
+    /// Updates the activity for an edge added to the graph.
     #[inline(always)]
     pub fn attach(&mut self, graph: &Graph, edge: Edge)
         requires kept { (before : LimitedFunding) × (ends : EdgeEnds) × (live : List Bool)
@@ -142,7 +142,7 @@ impl Active {
         self.attach_places(graph, ends.places(graph.layout()));
     }
 
-    /// Takes account of an edge removed from the graph, given its former ends.
+    /// Updates the activity for an edge removed from the graph, given its former ends.
     #[inline(always)]
     pub fn detach(&mut self, graph: &Graph, ends: EdgeEnds)
         requires sound { IsSound graph.now.funding }
@@ -171,7 +171,7 @@ impl Active {
         }
     }
 
-    /// The nodes that the last call left active or inactive, but with another amount.
+    /// The nodes of which the last call changed only the amount, and not whether they are active.
     pub fn adjusted(&self) -> ChangedNodes<'_>
         requires kept { (w : LimitedFunding) × (live : List Bool) × IsKeptFor self.now w live }
         ensures nodes { (w : LimitedFunding) (live : List Bool) → IsKeptFor self.now w live
@@ -184,7 +184,7 @@ impl Active {
         }
     }
 
-    /// The number of edges along which changes have been passed on so far: a statistic without a contract.
+    /// The number of edges along which changes have spread: a statistic without a contract.
     pub fn passed(&self) -> u64 {
         self.marks.passed()
     }

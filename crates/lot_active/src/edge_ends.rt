@@ -9,7 +9,7 @@ ghost use Rattle.lot_active.specs.Fundings as fundings;
 use lot_graph::{Graph, Layout};
 use lot_machine::{Edge, Lend, Node, Target};
 
-/// An existing edge: its source, its target, and its amount, which is its ticket's, or 1 if it has no ticket.
+/// An existing edge: its source, its target, and its amount, which is its ticket's, or 1 for another edge.
 #[derive(Clone, Copy, Debug, PartialEq, Eq)]
 pub struct EdgeEnds {
     pub from: Node,
@@ -51,7 +51,7 @@ pub fn ends_of_edge(graph: &Graph, edge: Edge) -> Option<EdgeEnds>
     ensures sound { IsSound graph.now.funding }
     ensures fits { FitsLimits graph.now }
 {
-    // Not every call below states that the graph is sound and fits its limits; this one does.
+    // Not every call below has clauses on the graph's invariant and limits. This one has.
     let _layout = graph.layout();
     match edge {
         Edge::OfTicket(number) => {
@@ -75,7 +75,7 @@ pub fn ends_of_edge(graph: &Graph, edge: Edge) -> Option<EdgeEnds>
     }
 }
 
-/// The source and the amount of an edge, if the edge exists. It doesn't look at the edge's target.
+/// The source and the amount of an edge, if the edge exists. It doesn't read the edge's target.
 #[inline(always)]
 pub(crate) fn source_of_edge(graph: &Graph, edge: Edge) -> Option<EdgeSource>
     ensures source { (ends : AnEdgePlaces) → fundings.places_of_edge (layout_of graph.now) graph.now.funding edge

@@ -48,8 +48,8 @@ pub fn calls_change_one_edge()
         → AddsEdge now w (OfMutex m) (edge_between 1 (MutexNode m) (ThreadNode owner)) }
 {}
 
-/// Making or removing a ticket without a target or a currency, adding a thread that isn't live, and changing the
-/// amount of a ticket without a target leave the kept activity right.
+/// These changes leave the activity right: making or removing a ticket without a target or a currency, adding a thread
+/// that isn't live, and changing the amount of a ticket without a target.
 pub fn others_keep()
     ensures issue { (v : Activity) (w now : LimitedFunding) (live : List Bool) (amount issuer : ℕ)
         → IsKeptFor v w live → IsSound now.funding → FitsLimits now

@@ -1,8 +1,8 @@
-//! Active tickets and threads, and each currency's active amount, kept up to date (4.4).
+//! Active tickets and threads, and each currency's active amount, updated incrementally (4.4).
 //!
 //! A node of the graph is active if a path of edges, perhaps empty, leads from it to a live thread. An edge is active
-//! if the node to which it leads is. A change is passed on along the edges into a node, node by node, from a worklist
-//! of linked lists. So only `new` allocates memory, and each call reads the edges into a node at most once.
+//! if its target is. A change spreads against the edges, node by node, from a worklist of linked lists. So only `new`
+//! allocates, and each call reads the edges into a node at most once.
 //!
 //! Its tests stand in `lot_kernel_tests`.
 #![tactic(auto)]

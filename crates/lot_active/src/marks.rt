@@ -16,15 +16,14 @@ use std::alloc::{AllocError, Global};
 use std::marker::Model;
 use std::mem::size_of;
 
-// The nodes with changed marks that aren't published yet, those with changed marks that are, and those of which only
-// the amount changed.
+// The lists: nodes with changed marks before they are published, the same after it, and nodes with only another amount.
 const PENDING: usize = 0;
 
 const SWITCHED: usize = 1;
 
 const ADJUSTED: usize = 2;
 
-// The memory of one node's mark and amount.
+// The bytes of one node's mark and amount.
 const MARK_BYTES: u64 = size_of::<bool>() as u64 + size_of::<u64>() as u64;
 
 #[derive(Drop)]
@@ -32,7 +31,7 @@ pub(crate) struct Marks {
     awake: Kept<bool>,
     amounts: Kept<u64>,
     lists: Lists,
-    // The number of edges passed on, for tests. No clause mentions it.
+    // The number of edges along which changes have spread, for tests. No clause mentions it.
     passed: u64,
 }
 
@@ -60,7 +59,7 @@ impl Marks {
         })
     }
 
-    /// The total of bytes that `new` requests from the allocator.
+    /// The number of bytes that `new` requests from the allocator.
     pub(crate) fn bytes(nodes: usize) -> u64
         requires few { nodes < 2 ^ 40 }
         ensures { result ≡ 21 * nodes + 24 }
@@ -68,7 +67,7 @@ impl Marks {
         MARK_BYTES * nodes as u64 + Lists::bytes(3, nodes)
     }
 
-    /// The bytes that it has room for: those that `new` requested.
+    /// The capacity in bytes: always exactly what `new` requested.
     pub(crate) fn held(&self) -> u64
         ensures { result ≡ 21 * length self.now.amounts + 24 }
     {
@@ -127,7 +126,7 @@ impl Marks {
         let amount = self.amounts[node];
         let was = is_marked(self.awake[node], amount);
         self.awake[node] = awake;
-        // The mark after the write is computed from what was read before it, since nothing needs to be read twice.
+        // Computed from the values read before the write, so that nothing is read twice.
         if is_marked(awake, amount) != was {
             relist(&mut self.lists, node, PENDING);
         }
@@ -149,7 +148,7 @@ impl Marks {
         self.passed = self.passed.saturating_add(1);
     }
 
-    /// The next node whose mark isn't published, if there is one; it counts as published afterwards.
+    /// Takes the next node whose mark isn't published, if there is one, and lists it as published.
     #[inline(always)]
     fn take_pending(&mut self) -> Option<usize>
         ensures none { IfNone result (nodes_of self.old.lists 0 ≡ []) }
@@ -185,7 +184,7 @@ impl Marks {
         }
     }
 
-    /// Publishes marks until none differs from its published one.
+    /// Publishes marks until all are published.
     #[inline(always)]
     pub(crate) fn propagate(&mut self, graph: &Graph, on: bool)
         requires nodes { length self.old.amounts ≡ node_count (layout_of graph.now) }
@@ -236,7 +235,7 @@ fn clear(lists: &mut Lists, list: usize)
     }
 }
 
-/// Moves a node into a list, out of its present one, if any.
+/// Moves a node from its list, if it is in one, into another.
 fn relist(lists: &mut Lists, node: usize, list: usize)
     requires node { node < lists.old.nodes }
     requires list { list < length lists.old.lists }

@@ -88,7 +88,7 @@ pub use Rattle.lot_c.specs.Names.{name_meant, name_passing, plain_name, spelled,
 pub use Rattle.lot_c.specs.Numbers.{outcome_number, refusal_number, reply_number, status_number, trap_refusal_number}
 pub use Rattle.lot_c.specs.Plain.{HasNames, plain_event}
 pub use Rattle.lot_c.specs.Readers.{handle_of, reader_of}
-pub use Rattle.lot_c.specs.Replies.{plain_outcome, plain_reply, runs_on}
+pub use Rattle.lot_c.specs.Replies.{plain_outcome, plain_reply, runs_on, seen_reply}
 pub use Rattle.lot_c.specs.Rows.{plain_status}
 pub use Rattle.lot_c.specs.Wides.{plain_wide, wide_meant}
 pub use Rattle.lot_c.specs.contracts.handle.Handle.{the_row, the_type}

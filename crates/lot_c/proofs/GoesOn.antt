@@ -1,6 +1,6 @@
--- A reply's flag says whether the thread that it names runs on the event's processor.
+-- A reply's flag tells whether its thread runs on the event's processor.
 use Rattle.lot_c.proofs.Common.{Action, After, BadProcessor, BadTicks, Bool, Call, Drawn, Effect, Ends, Event, GoesOn, IsInOrder, Leaves, List, Lock, None, NotRunning, Option, QueuedCall, Receive, Record, Refusal, RunsApart, Serve, Sizes, Sleep, Some, State, Status, Step, StopsIfLeaves, TrapRefusal, Unlock, Yield, after_trap, all-pass, ap, arith, at_number, at_number-suc, before_lock, change_record, checked-leads, checked-sizes, checked_effect, compensation_for, draw, ends_quantum, event_effect, event_refusal, false, filter-passes, finish_trap, found-runs, get_or, get_or_from_slice_get, inl, inr, is-ready, is_bad_processor, is_none, is_ready, length, length-map, map, mutex_at, nat_le, nat_lt, nobody-runs, not, numbered, numbers, option_any, plain_reply, port_at, processor_of, ready_threads, refl, runs_on, slice_get, slice_get_cases, slice_index, some-injective, started, status-now, status-set, status_of, step, step-order, stopped, suc, sym, there-runs, thread_in, thread_on, thread_there, trap_effect, trap_refusal, true, unless_refused, used_there, weight_of, winner, winner-within, with_ticks, zero, ℕ, [], ◌&&◌, ◌+◌, ◌-◌, ◌<◌, ◌^◌, ◌↔◌, ◌∙◌, ◌∷◌, ◌≡◌, ◌≤◌, ◌⊎◌}
-use Rattle.lot_machine.specs.declared.action.Action.TheVariants.{Reply as ReplyTo, Exit}
+use Rattle.lot_machine.specs.declared.trap.Trap.TheVariants.{Reply as ReplyTo, Exit}
 use Rattle.lot_machine.specs.declared.event.Event.TheVariants as event
 use Rattle.lot_machine.specs.declared.record.Status.TheVariants as status
 
@@ -34,7 +34,6 @@ abbrev Agrees : Effect → Type 0
 Agrees e = runs_on e.outcome ≡ stays e.after
 
 effect-agrees : (s : State) (t : ℕ) (action : Action) → Agrees (trap_effect s t action)
-effect-agrees s t Yield = refl
 effect-agrees s t (Call port number) = at (port_at s.ports port).receivers refl
   where
     at : (o : List ℕ) → (port_at s.ports port).receivers ≡ o → Agrees (trap_effect s t (Call port number))
@@ -45,7 +44,6 @@ effect-agrees s t (Receive port) = at (port_at s.ports port).calls refl
     at : (o : List QueuedCall) → (port_at s.ports port).calls ≡ o → Agrees (trap_effect s t (Receive port))
     at [] is = rw is refl
     at (first ∷ others) is = rw is refl
-effect-agrees s t (ReplyTo number) = refl
 effect-agrees s t (Serve port number) = at (port_at s.ports port).calls refl
   where
     at : (o : List QueuedCall) → (port_at s.ports port).calls ≡ o → Agrees (trap_effect s t (Serve port number))
@@ -61,8 +59,7 @@ effect-agrees s t (Unlock m d) = at (mutex_at s.mutexes m).waiters refl
     at : (o : List ℕ) → (mutex_at s.mutexes m).waiters ≡ o → Agrees (trap_effect s t (Unlock m d))
     at [] is = rw is refl
     at (w ∷ ws) is = rw is refl
-effect-agrees s t Sleep = refl
-effect-agrees s t Exit = refl
+effect-agrees s t action = refl
 
 checked-agrees : (s : State) (t : ℕ) (action : Action) (o : Option TrapRefusal) → Agrees (checked_effect s o (trap_effect s t action))
 checked-agrees s t action None = effect-agrees s t action

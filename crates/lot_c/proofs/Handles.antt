@@ -1,4 +1,4 @@
--- A handle of something owns what a box of it owns, and one of nothing is null. Assumes `Logic`.
+-- A handle of something owns what a box of it owns, and a handle of nothing is null. Assumes `Logic`.
 use Rattle.lot_c.proofs.Common.{Bx, Fits, Fml, Global, Goal, Good, Item, KernelValue, List, Logic, None, P, Ptr, RattleType, Seq, Slot, Some, Testable, Ura, Val, Valss, and_tt, block_ptr, box_owns, dealloc_token-Testable, dict, dnil, drop, fact_use, false, feq_i, feq_l, fjoin, fpack, fpick, fsplit, fst∗, full_share, ghosts, given, guard_i, handle_tells, impl, in_a_block, is_none, layout, learn, lies_at, lit<, lone, move, never, nothing, null_ptr, of_list, plain, ptr_val, refl, sem, shape, snd∗, subst, tnil, to, use1, via, vstruct, within, word, ℕ, [], ‵, ◌$◌, ◌++◌, ◌∷◌, ◌≡◌}
 use mir.Raw.{raw as bare}
 use types.Kit.{Step, step}

@@ -1,6 +1,6 @@
--- What is handed out and in again is the same.
-use Rattle.lot_c.proofs.Common.{Bool, Currencies, Event, Fund, HasNames, Kill, List, MakeCurrency, MakeFunded, MakeThread, MakeTicket, None, Ok, Option, Outcome, PlainReply, PlainStatus, Refusal, RemoveCurrency, RemoveThread, RemoveTicket, Reply, SetTicket, Sizes, Some, Status, Threads, Tickets, TrapRefusal, Unfund, ap, arith, div-add-mod', event_meant, false, find, is_name, is_thread_name, length, name_meant, name_passing, nat_lt, outcome_number, plain_event, plain_name, plain_outcome, plain_reply, plain_status, plain_wide, refl, refusal_number, reply_number, result_and_then, result_map, spelled, status_number, sym, take-append_seam, thread_name_meant, trap_refusal_number, true, unwrap_or, wide_meant, ℕ, [], ◌==◌, ◌^◌, ◌∙◌, ◌∷◌, ◌≡◌, ◌≤◌}
-use Rattle.lot_machine.specs.declared.action.Action.TheVariants as action
+-- A value that C receives and passes back is the same.
+use Rattle.lot_c.proofs.Common.{Bool, Currencies, Event, Fund, HasNames, Kill, List, MakeCurrency, MakeFunded, MakeThread, MakeTicket, None, Ok, Option, Outcome, PlainReply, PlainStatus, Refusal, RemoveCurrency, RemoveThread, RemoveTicket, Reply, SetTicket, Sizes, Some, Status, Threads, Tickets, TrapRefusal, Unfund, ap, arith, div-add-mod', event_meant, false, find, is_name, is_thread_name, length, name_meant, name_passing, nat_lt, outcome_number, plain_event, plain_name, plain_outcome, plain_reply, plain_status, plain_wide, refl, refusal_number, reply_number, result_and_then, result_map, seen_reply, spelled, status_number, sym, take-append_seam, thread_name_meant, trap_refusal_number, true, unwrap_or, wide_meant, ℕ, [], ◌==◌, ◌^◌, ◌∙◌, ◌∷◌, ◌≡◌, ◌≤◌}
+use Rattle.lot_machine.specs.declared.trap.Trap.TheVariants as action
 use Rattle.lot_machine.specs.declared.command.Command.TheVariants.{List as Listing}
 use Rattle.lot_machine.specs.declared.event.Event.TheVariants as event
 use Rattle.lot_machine.specs.declared.reference.CurrencyRef.TheVariants as currency_ref
@@ -34,21 +34,12 @@ wide n = div-add-mod' n (2 ^ 64)
 
 pub meant : (sizes : Sizes) (e : Event) → HasNames sizes e → event_meant sizes (plain_event e) ≡ Ok e
 meant sizes (event.Command (MakeTicket amount (currency_ref.Named currency))) (short, good) = ap (result_map (λ n. event.Command (MakeTicket amount (currency_ref.Named n)))) (named sizes currency short good)
-meant sizes (event.Command (MakeTicket amount (currency_ref.Numbered currency))) has = refl
-meant sizes (event.Command (RemoveTicket ticket)) has = refl
 meant sizes (event.Command (MakeCurrency name)) (short, good) = ap (result_map (λ n. event.Command (MakeCurrency n))) (named sizes name short good)
 meant sizes (event.Command (RemoveCurrency (currency_ref.Named currency))) (short, good) = ap (result_map (λ n. event.Command (RemoveCurrency (currency_ref.Named n)))) (named sizes currency short good)
-meant sizes (event.Command (RemoveCurrency (currency_ref.Numbered currency))) has = refl
 meant sizes (event.Command (Fund ticket (target_ref.Named target))) (short, good) = ap (result_map (λ n. event.Command (Fund ticket (target_ref.Named n)))) (named sizes target short good)
-meant sizes (event.Command (Fund ticket (target_ref.Currency currency))) has = refl
-meant sizes (event.Command (Fund ticket (target_ref.Thread thread))) has = refl
-meant sizes (event.Command (Unfund ticket)) has = refl
-meant sizes (event.Command (SetTicket ticket amount)) has = refl
 meant sizes (event.Command (MakeThread name script)) (short, good) = ap (result_map (λ n. event.Command (MakeThread n script))) (thread-named sizes name short good)
 meant sizes (event.Command (RemoveThread (thread_ref.Named thread))) (short, good) = ap (result_map (λ n. event.Command (RemoveThread (thread_ref.Named n)))) (named sizes thread short good)
-meant sizes (event.Command (RemoveThread (thread_ref.Numbered thread))) has = refl
 meant sizes (event.Command (Kill (thread_ref.Named thread))) (short, good) = ap (result_map (λ n. event.Command (Kill (thread_ref.Named n)))) (named sizes thread short good)
-meant sizes (event.Command (Kill (thread_ref.Numbered thread))) has = refl
 meant sizes (event.Command (MakeFunded amount (currency_ref.Named currency) name script)) ((short, good), (short', good')) =
     ap (λ m. result_and_then m (λ c. result_map (λ n. event.Command (MakeFunded amount (currency_ref.Named c) n script)) (thread_name_meant sizes (plain_name name)))) (named sizes currency short good)
     ∙ ap (result_map (λ n. event.Command (MakeFunded amount (currency_ref.Named currency) n script))) (thread-named sizes name short' good')
@@ -58,19 +49,8 @@ meant sizes (event.Command (Listing Tickets)) has = refl
 meant sizes (event.Command (Listing Currencies)) has = refl
 meant sizes (event.Command (Listing Threads)) has = refl
 meant sizes (event.Draw p d) has = ap (λ n. Ok (event.Draw p n)) (wide d)
-meant sizes (event.Expire p) has = refl
-meant sizes (event.Trap p ran action.Yield) has = refl
-meant sizes (event.Trap p ran (action.Call port number)) has = refl
-meant sizes (event.Trap p ran (action.Receive port)) has = refl
-meant sizes (event.Trap p ran (action.Reply number)) has = refl
-meant sizes (event.Trap p ran (action.Lock mutex)) has = refl
-meant sizes (event.Trap p ran (action.Serve port number)) has = refl
 meant sizes (event.Trap p ran (action.Unlock mutex d)) has = ap (λ n. Ok (event.Trap p ran (action.Unlock mutex n))) (wide d)
-meant sizes (event.Trap p ran action.Exit) has = refl
-meant sizes (event.Trap p ran action.Sleep) has = refl
-meant sizes (event.Preempt p ticks) has = refl
-meant sizes (event.Overrun p ticks) has = refl
-meant sizes (event.Wake t) has = refl
+meant sizes e has = refl
 
 -- ---- replies
 
@@ -147,12 +127,13 @@ outcomes outcome.Slept = refl
 outcomes outcome.Exited = refl
 outcomes (outcome.Refused why) = ap outcome.Refused (trap_refusals why)
 
-shown : (r : Reply) → reply_of (plain_reply r) ≡ r
+shown : (r : Reply) → reply_of (plain_reply r) ≡ seen_reply r
 shown (reply.Ticket ticket) = refl
 shown (reply.Currency currency) = refl
 shown (reply.Thread thread) = refl
 shown (reply.Funded ticket thread) = refl
 shown reply.Done = refl
+shown (reply.Killed thread) = refl
 shown (reply.List Tickets) = refl
 shown (reply.List Currencies) = refl
 shown (reply.List Threads) = refl
@@ -163,7 +144,7 @@ shown (reply.Expired thread ticks) = refl
 shown (reply.Trapped thread ticks o ends) = ap (λ x. reply.Trapped thread ticks x ends) (outcomes o)
 shown (reply.Refused why) = ap reply.Refused (refusals why)
 
-pub replies : (one other : Reply) → plain_reply one ≡ plain_reply other → one ≡ other
+pub replies : (one other : Reply) → plain_reply one ≡ plain_reply other → seen_reply one ≡ seen_reply other
 replies one other same = sym (shown one) ∙ ap reply_of same ∙ shown other
 
 -- ---- statuses

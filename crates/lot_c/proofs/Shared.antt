@@ -1,4 +1,4 @@
--- What a `&` to a reader shares, from a borrow of what the reader owns. Assumes `Logic`.
+-- The share of a `&` to a reader, from a borrow of what the reader owns. Assumes `Logic`.
 use Rattle.lot_c.proofs.Common.{Fml, KernelValue, Lends, Lft, Logic, None, Ptr, Share, ShrLaws, Some, Testable, Ura, apply∗, assume, await, beside_shr_laws, bor_fracture, bor_open, contraction, done, ent, fbor, fdead, feq, fex, fjoin, flft, fsep, fsplit, fsplit3, ftrue, fupd, fwand, handle_shares, id⊢, keep, later, lent_at, lent_at_shr_laws, lfts, meet_⊑_left, move, moves_from, nothing, now, null_ptr, obor_alter, one_token, pick, qed, raw, said, said_shr_laws, sem, sep, some, span, split, suffices, thinned, upd_i, updating, use1, use2, wand, ℕ, !, [], ‵, ◌$◌, ◌∵◌, ◌∷◌, ◌⊛◌}
 use base.Fml.{fseps}
 use Rattle.lot_kernel.specs.contracts.kernel.Kernel as kernel

@@ -32,20 +32,20 @@ use Rattle.lot_c.specs.Replies.{plain_reply}
 use Rattle.lot_c.specs.Rows.{plain_ticket_row, plain_currency_row, plain_thread_row}
 use Rattle.lot_c.specs.Numbers.{code}
 
--- A call through a handle, given its old and new contents: without a kernel the first statement holds, and there is
--- still none; with one the second holds of the kernel before and after.
+-- A call through a handle, given its old and new contents. Without a kernel the first statement holds, and the handle
+-- stays without one. With a kernel the second holds of it before and after.
 abbrev pub Through : Option Snapshot → Option Snapshot → Type 0 → (Snapshot → Snapshot → Type 0) → Type 0
 Through None after none found = (after ≡ None) × none
 Through (Some before) after none found = IsSomeAnd after (found before)
 
--- The making of a kernel: refused if there is one already or if limits are out of bounds; otherwise it is in the
+-- The making of a kernel: refused if the handle has one or a size is out of its bounds. Otherwise the kernel is in the
 -- opening state, or there is none if out of memory.
 pub record Opens (sizes : PlainSizes) (status : ℕ) (old new : Option Snapshot) : Type 0 where
   pub there : (k : Snapshot) → old ≡ Some k → (status ≡ code KernelThere) × (new ≡ Some k)
   pub limits : old ≡ None → ¬ IsWithinBounds (sizes_meant sizes) → (status ≡ code BadLimits) × (new ≡ None)
   pub made : old ≡ None → IsWithinBounds (sizes_meant sizes) → ((status ≡ code Done) × (new ≡ Some (starting (sizes_meant sizes)))) ⊎ ((status ≡ code NoMemory) × (new ≡ None))
 
--- the bytes of a kernel itself, in addition to those of its tables
+-- the bytes of a kernel's box, in addition to those of its tables
 abbrev pub box_bytes : ℕ
 box_bytes = 1456
 
@@ -81,7 +81,7 @@ abbrev pub events_meant : Sizes → List PlainEvent → List Event
 events_meant sizes [] = []
 events_meant sizes (fields ∷ others) = in_front (event_meant sizes fields) (events_meant sizes others)
 
--- the status for an invalid event, or otherwise the given one
+-- the status for an invalid event, otherwise the given one
 abbrev pub fault_or : Result Event Status → Status → Status
 fault_or (Ok e) other = other
 fault_or (Err why) other = why
@@ -91,7 +91,7 @@ abbrev pub first_fault : Sizes → List PlainEvent → Status
 first_fault sizes [] = Done
 first_fault sizes (fields ∷ others) = fault_or (event_meant sizes fields) (first_fault sizes others)
 
--- the machine's replies to an event and to those after it if it is valid, and otherwise the old replies
+-- the machine's replies to an event and to those after it if it is valid, otherwise the old replies
 abbrev pub written_by : State → Result Event Status → PlainReply → (State → List PlainReply) → List PlainReply → List PlainReply
 written_by s (Ok e) reply next others = plain_reply (step s e).reply ∷ next (step s e).state
 written_by s (Err why) reply next others = reply ∷ others
@@ -101,8 +101,8 @@ abbrev pub replies_written : State → List PlainEvent → List PlainReply → L
 replies_written s (fields ∷ events) (reply ∷ others) = written_by s (event_meant s.limits fields) reply (λ after. replies_written after events others) others
 replies_written s events others = others
 
--- The call with these fields in order: it makes the valid events before the first invalid one in turn, each as
--- `Kernel::event` does.
+-- The call with these fields in order: it makes the valid events before the first invalid one, each as `Kernel::event`
+-- does.
 pub record AreAnswered (fields : List PlainEvent) (status done : ℕ) (old new : Snapshot) (before after : List PlainReply) : Type 0 where
   pub status_is : status ≡ code (first_fault old.state.limits fields)
   pub done_are : done ≡ length (events_meant old.state.limits fields)
@@ -112,7 +112,8 @@ pub record AreAnswered (fields : List PlainEvent) (status done : ℕ) (old new :
 
 -- ---- rows and queries
 
--- the row of a ticket, if it exists; as in `Kernel::ticket_row`, stale values are recomputed and counted
+-- the row of a ticket, if it exists; like `Kernel::ticket_row`, the call recomputes stale values, which the meter
+-- counts
 pub record ShowsTicket (ticket status : ℕ) (old new : Snapshot) (before after : PlainTicketRow) : Type 0 where
   pub row : (t : TicketRow) → rows.ticket_row old.state ticket ≡ Some t → (status ≡ code Done) × (after ≡ plain_ticket_row t) × HasNoneTwice old.stale
   pub not_there : rows.ticket_row old.state ticket ≡ None → (status ≡ code NotThere) × (new ≡ old) × (after ≡ before)
@@ -131,13 +132,13 @@ pub record ShowsThread (thread status : ℕ) (old new : Snapshot) (before after 
   pub not_there : rows.thread_row old.state thread ≡ None → (status ≡ code NotThere) × (new ≡ old) × (after ≡ before)
   pub state : new.state ≡ old.state
 
--- all values are recomputed: none is stale, and each edge into a stale node was counted once
+-- no value is stale, and each edge into a stale node was counted once
 pub record IsSettledBy (status : ℕ) (old new : Snapshot) : Type 0 where
   pub done : status ≡ code Done
   pub kernel : new ≡ settled old
   pub once : HasNoneTwice old.stale
 
--- the row of a ticket of a kernel that a call only reads, if it exists and no value is stale
+-- the row of a ticket in a call that only reads the kernel, if it exists and no value is stale
 pub record ShowsSettledTicket (ticket status : ℕ) (k : Snapshot) (before after : PlainTicketRow) : Type 0 where
   pub stale : k.stale ≢ [] → (status ≡ code NotSettled) × (after ≡ before)
   pub row : (r : TicketRow) → k.stale ≡ [] → rows.ticket_row k.state ticket ≡ Some r → (status ≡ code Done) × (after ≡ plain_ticket_row r)

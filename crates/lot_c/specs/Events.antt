@@ -1,8 +1,8 @@
 -- The event in plain fields.
 use Rattle.std.specs.Prelude.{ℕ, ◌==◌, Option, Some, None, Result, Ok, Err, List, [], ◌∷◌}
 use Rattle.std.specs.List.{find}
-use Rattle.lot_machine.specs.declared.action.Action.{Action}
-use Rattle.lot_machine.specs.declared.action.Action.TheVariants as action
+use Rattle.lot_machine.specs.Actions.{Action}
+use Rattle.lot_machine.specs.declared.trap.Trap.TheVariants as action
 use Rattle.lot_machine.specs.declared.command.Command.{Command}
 use Rattle.lot_machine.specs.declared.command.Command.TheVariants.{MakeTicket, RemoveTicket, MakeCurrency, RemoveCurrency, Fund, Unfund, SetTicket, MakeThread, RemoveThread, Kill, MakeFunded, List as Listing}
 use Rattle.lot_machine.specs.declared.command.Kind.TheVariants.{Tickets, Currencies, Threads}
@@ -72,7 +72,7 @@ meanings =
     ∷ (EventKind.Unlock, λ sizes e. traps e (action.Unlock e.object (wide_meant e.number)))
     ∷ (EventKind.Exit, λ sizes e. traps e action.Exit)
     ∷ (EventKind.Serve, λ sizes e. traps e (action.Serve e.object e.sent))
-    ∷ (EventKind.Sleep, λ sizes e. traps e action.Sleep)
+    ∷ (EventKind.Sleep, λ sizes e. traps e (action.Sleep tt))
     ∷ (EventKind.Preempt, λ sizes e. Ok (event.Preempt e.processor e.ticks))
     ∷ (EventKind.Overrun, λ sizes e. Ok (event.Overrun e.processor e.ticks))
     ∷ (EventKind.Wake, λ sizes e. Ok (event.Wake e.object))

@@ -19,12 +19,13 @@ abbrev pub handle_owns : Global → Ptr → KernelValue → Fml
 handle_owns alloc p None = feq Ptr p null_ptr
 handle_owns alloc p (Some x) = box_owns (ghosts.dealloc_token alloc) the_row p x
 
--- For a while a null handle shares nothing, and any other its kernel, at a pointer that may be compared with null.
+-- For a while a null handle shares nothing, and any other handle its kernel, at a pointer that code may compare with
+-- null.
 abbrev pub handle_shares : Ptr → KernelValue → Lft → Fml
 handle_shares p None = said (feq Ptr p null_ptr)
 handle_shares p (Some x) = beside (said (fex (Testable p) (λ _. ftrue))) (lent_at the_row p x)
 
--- a reader's handle owns what the handle shares for a while, and a share of the promise that the while lasts
+-- a reader's handle owns what the handle shares for a while, and a share of the promise that this while lasts
 abbrev pub reader_owns : Ptr → KernelValue → ℕ → Share → Fml
 reader_owns p held life share = fsep (flft (life ∷ []) share) (handle_shares p held (life ∷ []))
 

@@ -1,4 +1,4 @@
--- The kernel that a handle lends where it is.
+-- A kernel lent by its handle, in place.
 use Rattle.std.specs.Prelude.{Option, Some}
 use Rattle.std.specs.Borrow.{Lends, LendsIf, MutBor, Fml}
 use Rattle.lot_kernel.specs.contracts.kernel.Kernel as kernel
@@ -13,6 +13,6 @@ with_kernel h k = record h { kernel = Some k }
 abbrev pub LendsKernel : MutBor Handle → MutBor kernel.the_row.Denot → Fml
 LendsKernel h r = Lends the_row kernel.the_row h r (with_kernel h.now)
 
--- so it ends, or as it was if it lends none
+-- the handle ends so if it lends a kernel, and otherwise unchanged
 abbrev pub LendsKernelIf : MutBor Handle → Option (MutBor kernel.the_row.Denot) → Fml
 LendsKernelIf h r = LendsIf the_row kernel.the_row h r (with_kernel h.now) h.now

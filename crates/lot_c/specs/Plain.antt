@@ -1,8 +1,8 @@
 -- The plain fields of an event.
 use Rattle.std.specs.Prelude.{◌≡◌, ◌≤◌, ℕ, List, [], true, length}
 use Rattle.lot_machine.specs.Commands.{is_name, is_thread_name}
-use Rattle.lot_machine.specs.declared.action.Action.{Action}
-use Rattle.lot_machine.specs.declared.action.Action.TheVariants as action
+use Rattle.lot_machine.specs.Actions.{Action}
+use Rattle.lot_machine.specs.declared.trap.Trap.TheVariants as action
 use Rattle.lot_machine.specs.declared.command.Command.{Command}
 use Rattle.lot_machine.specs.declared.command.Command.TheVariants.{MakeTicket, RemoveTicket, MakeCurrency, RemoveCurrency, Fund, Unfund, SetTicket, MakeThread, RemoveThread, Kill, MakeFunded, List as Listing}
 use Rattle.lot_machine.specs.declared.command.Kind.TheVariants.{Tickets, Currencies, Threads}
@@ -41,7 +41,7 @@ of_kind k = record {
 abbrev IsName : Sizes → List ℕ → Type 0
 IsName sizes name = (length name ≤ 16) × (is_name sizes name ≡ true)
 
--- the same of the name of a thread, which may have none
+-- the same for the name of a thread, which may have none
 abbrev IsThreadName : Sizes → List ℕ → Type 0
 IsThreadName sizes name = (length name ≤ 16) × (is_thread_name sizes name ≡ true)
 
@@ -111,7 +111,7 @@ plain_trap p ran (action.Reply number) = record (of_kind EventKind.Reply) { proc
 plain_trap p ran (action.Lock mutex) = record (of_kind EventKind.Lock) { processor = p; ticks = ran; object = mutex }
 plain_trap p ran (action.Unlock mutex d) = record (of_kind EventKind.Unlock) { processor = p; ticks = ran; object = mutex; number = plain_wide d }
 plain_trap p ran action.Exit = record (of_kind EventKind.Exit) { processor = p; ticks = ran }
-plain_trap p ran action.Sleep = record (of_kind EventKind.Sleep) { processor = p; ticks = ran }
+plain_trap p ran (action.Sleep n) = record (of_kind EventKind.Sleep) { processor = p; ticks = ran }
 plain_trap p ran (action.Serve port number) = record (of_kind EventKind.Serve) { processor = p; ticks = ran; object = port; sent = number }
 
 -- an event in plain fields

@@ -1,4 +1,4 @@
--- A reader's handle, seen where it is as what can be read through a reference.
+-- A reader's handle, in place, as a struct that code can read through a reference.
 use Rattle.std.specs.Borrow.{Lends, MutBor, Fml}
 use Rattle.lot_c.specs.declared.reader.ReadHandle.{ReadHandle}
 use Rattle.lot_c.specs.declared.reader.Reader.{Reader}

@@ -74,6 +74,11 @@ reply_fields (reply.Trapped thread ticks outcome ends) = record (plain_outcome o
 reply_fields (reply.Refused why) = record blank_reply { reason = refusal_number why }
 reply_fields other = blank_reply
 
+-- the reply as a caller in C sees it, whom a kill tells that it is done
+abbrev pub seen_reply : Reply → Reply
+seen_reply (reply.Killed thread) = reply.Done
+seen_reply other = other
+
 -- the reply in plain fields
 abbrev pub plain_reply : Reply → PlainReply
 plain_reply r = record (reply_fields r) { kind = reply_number r }

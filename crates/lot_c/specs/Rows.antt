@@ -49,7 +49,7 @@ plain_currency_row row = record {
   name = plain_name row.name;
 }
 
--- the status of a thread that doesn't run, with the number that it waits for
+-- the status of a thread that doesn't run, with the number of its port, server or mutex
 abbrev waits : Status → ℕ → PlainStatus
 waits status other = record { kind = status_number status; processor = 0; used = 0; other = other }
 

@@ -1,4 +1,4 @@
--- Numbers of 128 bits in plain fields.
+-- 128-bit numbers in plain fields.
 use Rattle.std.specs.Prelude.{ℕ, ◌+◌, ◌*◌, ◌/◌, ◌%◌, ◌^◌}
 use Rattle.lot_c.specs.declared.wide.Wide.{Wide}
 

@@ -82,17 +82,17 @@ const KILL: u32 = 34;
 
 const KILL_NUMBERED: u32 = 35;
 
-/// An event in plain fields. Its kind determines which other fields are read.
+/// An event in plain fields. Its kind decides which other fields the library reads.
 #[repr(C)]
 #[derive(Clone, Copy)]
 pub struct PlainEvent {
     pub kind: u32,
-    /// The processor of a draw, a trap, or the end of a turn, from 1.
+    /// The processor of the event, from 1. Commands and wakes have none.
     pub processor: u32,
     /// The ticks of work before a trap or a preemption, or the ticks by which a quantum ended late.
     pub ticks: u32,
-    /// The port or the mutex of a trap, or the thread to wake, fund, remove or kill, from 1; or the currency to fund
-    /// or remove, or that issues a ticket, from 0, which is base.
+    /// The port or the mutex of a trap, or the thread to wake, fund, remove or kill, all from 1; or the currency to
+    /// fund or remove, or that issues a ticket, from 0, which is base.
     pub object: u32,
     /// The number that a call, a reply or a serve sends.
     pub sent: u32,
@@ -104,13 +104,14 @@ pub struct PlainEvent {
     pub ticket: u64,
     /// The name of the currency that issues a ticket, or of the currency to remove.
     pub currency: PlainName,
-    /// The name of a new currency or thread, of the target to fund, or of the thread to remove or to kill. A new thread
-    /// without a name has a name without bytes.
+    /// The name of a new currency or thread, of the target to fund, or of the thread to remove or to kill. No bytes
+    /// mean a new thread without a name.
     pub name: PlainName,
 }
 
 impl PlainEvent {
-    /// The event in these fields for a kernel with these limits, or the status for invalid fields.
+    /// The event in these fields for a kernel with these limits, or `BadKind`, `LongName` or `BadName` for invalid
+    /// fields.
     pub(crate) fn read(&self, limits: &Limits) -> Result<Event, Status>
         ensures { result ≡ event_meant (sizes_of limits.now) self.now }
     {
@@ -257,14 +258,13 @@ impl PlainEvent {
             REPLY => self.trap(Action::Reply(self.sent)),
             LOCK => self.trap(Action::Lock(self.object)),
             UNLOCK => self.trap(Action::Unlock(self.object, self.number.number())),
-            SLEEP => self.trap(Action::Sleep),
+            SLEEP => self.trap(Action::Sleep(())),
             EXIT => self.trap(Action::Exit),
             SERVE => self.trap(Action::Serve(self.object, self.sent)),
             _ => unreachable!(),
         }
     }
 
-    /// The trap with this action.
     fn trap(&self, action: Action) -> Event
         ensures { result ≡ event.Trap self.now.processor self.now.ticks action }
     {

@@ -10,7 +10,8 @@ use crate::reply::PlainReply;
 use crate::status::Status;
 use lot_kernel::Kernel;
 
-/// Makes one event. Invalid fields change nothing.
+/// Makes one event and stores its reply. Returns `NoKernel` without a kernel, and `BadKind`, `LongName` or `BadName`
+/// for invalid fields; then nothing changes. A refusal by the kernel is a reply, with the status `Done`.
 #[unsafe(no_mangle)]
 pub extern "C" fn lot_kernel_event(
     kernel: &mut Handle,
@@ -26,7 +27,7 @@ pub extern "C" fn lot_kernel_event(
     }
 }
 
-/// Makes one event, if its fields are valid.
+/// Makes one event if its fields are valid, and otherwise returns the fault.
 fn answer(kernel: &mut Kernel, event: &PlainEvent, reply: &mut PlainReply) -> u32
     ensures { IsAnswered event.now result kernel.old kernel.new reply.old reply.new }
 {
@@ -39,8 +40,9 @@ fn answer(kernel: &mut Kernel, event: &PlainEvent, reply: &mut PlainReply) -> u3
     }
 }
 
-/// Makes events in order, up to the first with invalid fields, and stores how many it made. There must be as many
-/// replies.
+/// Makes events in order, up to the first with invalid fields, and stores how many it made. Returns `CountsDiffer`
+/// unless there are as many replies as events, `NoKernel` without a kernel, and the fault of the first invalid fields,
+/// after the events before it.
 #[unsafe(no_mangle)]
 pub extern "C" fn lot_kernel_run(
     kernel: &mut Handle,
@@ -64,7 +66,8 @@ pub extern "C" fn lot_kernel_run(
     }
 }
 
-/// Makes events in order, up to the first with invalid fields, and stores how many it made.
+/// Makes events in order, up to the first with invalid fields, and stores how many it made. Returns the fault of these
+/// fields.
 fn answer_all(
     kernel: &mut Kernel,
     events: &[PlainEvent],

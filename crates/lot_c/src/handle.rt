@@ -10,7 +10,7 @@ use std::marker::{Model, Send};
 use std::mem;
 use std::ptr::null_mut;
 
-/// C's handle of a kernel: an opaque pointer, or null without a kernel.
+/// C's handle of a kernel: an opaque pointer, null without a kernel.
 #[repr(C)]
 pub struct Handle {
     at: *mut u8,
@@ -22,7 +22,7 @@ impl Model for Handle {
     ghost also_owns = { λ h. handle_owns h.alloc h.at h.kernel };
 }
 
-/// A kernel shares nothing, so it may move from thread to thread.
+/// A kernel shares nothing, so a handle may move from thread to thread.
 unsafe impl Send for Handle {}
 
 impl Drop for Handle {
@@ -55,7 +55,7 @@ impl Handle {
         Handle { at, alloc }
     }
 
-    /// The parts of its kernel, or `None` if it has none.
+    /// The parts of the kernel, or `None` if the handle has none.
     fn into_parts(self) -> Option<Parts<Kernel, Global>>
         ensures { MatchOption result (self.kernel ≡ None) (λ p. self.kernel ≡ Some p.value) }
     {
@@ -68,7 +68,7 @@ impl Handle {
         }
     }
 
-    /// Its kernel where it is, or `None` if it has none.
+    /// The kernel in place, or `None` if the handle has none.
     pub(crate) fn get_mut(&mut self) -> Option<&mut Kernel>
         ensures* writes_back { sem 𝓛 (LendsKernelIf self.entry result) }
         ensures value { MatchOption result (self.old.kernel ≡ None) (λ r. self.old.kernel ≡ Some r.now) }
@@ -80,14 +80,14 @@ impl Handle {
         }
     }
 
-    /// Whether it has no kernel.
+    /// Whether the handle has no kernel.
     pub(crate) fn is_empty(&mut self) -> bool
         ensures { (result ≡ is_none self.old.kernel) × (self.new ≡ self.old) }
     {
         self.at.is_null()
     }
 
-    /// Its kernel where it is.
+    /// The kernel in place.
     fn kernel(&mut self) -> &mut Kernel
         requires { is_none self.old.kernel ≡ false }
         ensures* writes_back { sem 𝓛 (LendsKernel self.entry result) }
@@ -96,7 +96,7 @@ impl Handle {
         unsafe { &mut *(self.at as *mut Kernel) }
     }
 
-    /// Takes its kernel out, or returns `None` if it has none.
+    /// Takes the kernel out, or returns `None` if the handle has none.
     pub(crate) fn take(&mut self, alloc: Global) -> Option<Box<Kernel>>
         ensures kernel { MatchOption result (self.old.kernel ≡ None) (λ k. self.old.kernel ≡ Some k.value) }
         ensures empty { self.new.kernel ≡ None }

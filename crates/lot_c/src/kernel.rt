@@ -1,4 +1,4 @@
-//! A kernel through a handle: making it, freeing it, and queries that read it where it is.
+//! A kernel through a handle: making and freeing it, and queries that read it in place.
 ghost use Rattle.std.specs.Prelude.{◌≡◌, ◌⊎◌, IfOk, IfSome, IfErr, MatchOption, None, Some, length};
 ghost use Rattle.lot_machine.specs.Bounds.{IsWithinBounds};
 ghost use Rattle.lot_machine.specs.Facts.{IsSound};
@@ -16,11 +16,12 @@ use lot_kernel::{Kernel, Processor, ThreadNumber};
 use std::alloc::Global;
 use std::mem::size_of;
 
-// The memory for the box of a kernel, in addition to the kernel's tables.
+// The bytes of the kernel's box, in addition to those of the kernel's tables.
 const KERNEL_BYTES: u64 = size_of::<Kernel>() as u64;
 
 /// Makes a kernel with these sizes, for a handle without one. It allocates all the memory that the kernel will ever
-/// use.
+/// use. Returns `KernelThere` if the handle has a kernel, `BadLimits` if a size is out of its bounds, and `NoMemory` if
+/// out of memory.
 #[unsafe(no_mangle)]
 pub extern "C" fn lot_kernel_new(alloc: Global, sizes: &PlainSizes, kernel: &mut Handle) -> u32
     ensures opens { Opens sizes.now result kernel.old.kernel kernel.new.kernel }
@@ -38,7 +39,7 @@ pub extern "C" fn lot_kernel_new(alloc: Global, sizes: &PlainSizes, kernel: &mut
     }
 }
 
-/// A kernel with these sizes, or the reason why there is none.
+/// A kernel with these sizes, or `BadLimits` or `NoMemory`.
 fn make(alloc: Global, sizes: &PlainSizes) -> Result<Box<Kernel>, Status>
     ensures opening { IfOk result (λ k. k.value ≡ starting (sizes_meant sizes.now)) }
     ensures sound { IfOk result (λ k. IsSound k.value.state) }
@@ -55,7 +56,8 @@ fn make(alloc: Global, sizes: &PlainSizes) -> Result<Box<Kernel>, Status>
     Box::new(alloc, kernel).map_err(|_| Status::NoMemory)
 }
 
-/// Stores the total of bytes that `lot_kernel_new` requests from the allocator for a kernel with these sizes.
+/// Stores the number of bytes that `lot_kernel_new` requests from the allocator for a kernel with these sizes. Returns
+/// `BadLimits` if a size is out of its bounds.
 #[unsafe(no_mangle)]
 pub extern "C" fn lot_kernel_bytes(sizes: &PlainSizes, bytes: &mut u64) -> u32
     ensures { TellsBytes sizes.now result bytes.old bytes.new }
@@ -69,7 +71,7 @@ pub extern "C" fn lot_kernel_bytes(sizes: &PlainSizes, bytes: &mut u64) -> u32
     }
 }
 
-/// Frees the kernel, if the handle has one, and leaves the handle without a kernel.
+/// Frees the kernel, if the handle has one, and leaves the handle without a kernel. It always returns `Done`.
 #[unsafe(no_mangle)]
 pub extern "C" fn lot_kernel_free(alloc: Global, kernel: &mut Handle) -> u32
     ensures freed { kernel.new.kernel ≡ None }
@@ -81,7 +83,7 @@ pub extern "C" fn lot_kernel_free(alloc: Global, kernel: &mut Handle) -> u32
     Status::Done.code()
 }
 
-/// Stores the sizes that the kernel was made with.
+/// Stores the sizes that the kernel was made with. Returns `NoKernel` without a kernel.
 #[unsafe(no_mangle)]
 pub extern "C" fn lot_kernel_limits(kernel: &mut ReadHandle, sizes: &mut PlainSizes) -> u32
     ensures handle { kernel.new ≡ kernel.old }
@@ -95,7 +97,8 @@ pub extern "C" fn lot_kernel_limits(kernel: &mut ReadHandle, sizes: &mut PlainSi
     Status::Done.code()
 }
 
-/// Stores the number of tickets, lends and owners read, and of places of the tree of weights visited.
+/// Stores the counts of tickets, lends and owners read, and of places visited in the tree of weights. Returns
+/// `NoKernel` without a kernel.
 #[unsafe(no_mangle)]
 pub extern "C" fn lot_kernel_meter(kernel: &mut ReadHandle, meter: &mut PlainMeter) -> u32
     ensures handle { kernel.new ≡ kernel.old }
@@ -109,7 +112,8 @@ pub extern "C" fn lot_kernel_meter(kernel: &mut ReadHandle, meter: &mut PlainMet
     Status::Done.code()
 }
 
-/// Stores how many numbers of tickets have been given, those of removed ones included.
+/// Stores the count of ticket numbers given so far, those of removed tickets included. Returns `NoKernel` without a
+/// kernel.
 #[unsafe(no_mangle)]
 pub extern "C" fn lot_kernel_ticket_count(kernel: &mut ReadHandle, count: &mut u32) -> u32
     ensures handle { kernel.new ≡ kernel.old }
@@ -123,7 +127,8 @@ pub extern "C" fn lot_kernel_ticket_count(kernel: &mut ReadHandle, count: &mut u
     Status::Done.code()
 }
 
-/// Stores how many numbers of currencies have been given, those of base and of removed ones included.
+/// Stores the count of currency numbers given so far, those of base and of removed currencies included. Returns
+/// `NoKernel` without a kernel.
 #[unsafe(no_mangle)]
 pub extern "C" fn lot_kernel_currency_count(kernel: &mut ReadHandle, count: &mut u32) -> u32
     ensures handle { kernel.new ≡ kernel.old }
@@ -137,7 +142,8 @@ pub extern "C" fn lot_kernel_currency_count(kernel: &mut ReadHandle, count: &mut
     Status::Done.code()
 }
 
-/// Stores the thread that runs on the processor.
+/// Stores the thread that runs on the processor. Returns `NoKernel` without a kernel, and `NotThere` if no thread runs
+/// there.
 #[unsafe(no_mangle)]
 pub extern "C" fn lot_kernel_runner(
     kernel: &mut ReadHandle,
@@ -154,7 +160,7 @@ pub extern "C" fn lot_kernel_runner(
     }
 }
 
-/// Stores the thread that runs on the processor, if there is one.
+/// Stores the thread that runs on the processor, or returns `NotThere`.
 fn show_runner(kernel: &Kernel, processor: u32, runner: &mut PlainRunner) -> u32
     ensures { ShowsRunner processor result kernel.now runner.old runner.new }
 {
@@ -167,7 +173,8 @@ fn show_runner(kernel: &Kernel, processor: u32, runner: &mut PlainRunner) -> u32
     }
 }
 
-/// Stores the number of the thread's script, fixed when it was made.
+/// Stores the number of the thread's script, fixed when it was made. Returns `NoKernel` without a kernel, and
+/// `NotThere` if there is no such thread.
 #[unsafe(no_mangle)]
 pub extern "C" fn lot_kernel_script_of(
     kernel: &mut ReadHandle,
@@ -184,7 +191,7 @@ pub extern "C" fn lot_kernel_script_of(
     }
 }
 
-/// Stores the number of the thread's script, if there is such a thread.
+/// Stores the number of the thread's script, or returns `NotThere`.
 fn show_script(kernel: &Kernel, thread: u32, script: &mut u32) -> u32
     ensures { ShowsScript thread result kernel.now script.old script.new }
 {

@@ -12,7 +12,7 @@ ghost use Rattle.lot_machine.specs.Step.{step};
 ghost use Rattle.lot_c.specs.Events.{event_meant};
 ghost use Rattle.lot_c.specs.Names.{name_meant, plain_name, thread_name_meant};
 ghost use Rattle.lot_c.specs.Plain.{HasNames, plain_event};
-ghost use Rattle.lot_c.specs.Replies.{plain_reply};
+ghost use Rattle.lot_c.specs.Replies.{plain_reply, seen_reply};
 ghost use Rattle.lot_c.specs.Rows.{plain_status};
 ghost use Rattle.lot_c.specs.Wides.{plain_wide, wide_meant};
 
@@ -24,7 +24,7 @@ pub fn names_come_back()
         → thread_name_meant sizes (plain_name name) ≡ Ok name }
 {}
 
-/// A number of 128 bits that C receives keeps its meaning when C passes it back.
+/// A 128-bit number that C receives keeps its meaning when C passes it back.
 pub fn wides_come_back()
     ensures { (n : ℕ) → wide_meant (plain_wide n) ≡ n }
 {}
@@ -34,9 +34,9 @@ pub fn each_event_can_be_meant()
     ensures { (sizes : Sizes) (e : Event) → HasNames sizes e → event_meant sizes (plain_event e) ≡ Ok e }
 {}
 
-/// No two replies have equal plain fields.
+/// No two replies have equal plain fields, except that a kill is done as other commands are.
 pub fn replies_differ()
-    ensures { (one other : Reply) → plain_reply one ≡ plain_reply other → one ≡ other }
+    ensures { (one other : Reply) → plain_reply one ≡ plain_reply other → seen_reply one ≡ seen_reply other }
 {}
 
 /// After a draw, an expiry or a trap the reply's flag tells whether the thread that it names runs on the processor.

@@ -1,7 +1,7 @@
 //! The kernel for C: an export for each of its calls, and for the lottery by itself.
 //!
-//! An export validates what C passes before it acts. An invalid call changes nothing and returns the reason as its
-//! status. `bindings/c/lot.h` lists what each call requires of C.
+//! An export validates its arguments before it acts. An invalid call changes nothing and returns the reason as its
+//! status. `bindings/c/lot.h` lists the caller's obligations for each call.
 #![tactic(auto)]
 
 mod event;

@@ -9,7 +9,8 @@ use crate::rows::{PlainCurrencyRow, PlainThreadRow, PlainTicketRow};
 use crate::status::Status;
 use lot_kernel::{CurrencyNumber, Kernel, ThreadNumber, TicketNumber};
 
-/// Stores the row of the ticket with this number.
+/// Stores the row of the ticket with this number. Returns `NoKernel` without a kernel, and `NotThere` if there is no
+/// such ticket.
 #[unsafe(no_mangle)]
 pub extern "C" fn lot_kernel_ticket_row(
     kernel: &mut Handle,
@@ -25,7 +26,7 @@ pub extern "C" fn lot_kernel_ticket_row(
     }
 }
 
-/// Stores the row of the ticket with this number, if it exists.
+/// Stores the row of the ticket with this number, or returns `NotThere`.
 fn show_ticket(kernel: &mut Kernel, ticket: u32, row: &mut PlainTicketRow) -> u32
     ensures { ShowsTicket ticket result kernel.old kernel.new row.old row.new }
 {
@@ -38,7 +39,8 @@ fn show_ticket(kernel: &mut Kernel, ticket: u32, row: &mut PlainTicketRow) -> u3
     }
 }
 
-/// Stores the row of the currency with this number.
+/// Stores the row of the currency with this number. Returns `NoKernel` without a kernel, and `NotThere` if there is no
+/// such currency.
 #[unsafe(no_mangle)]
 pub extern "C" fn lot_kernel_currency_row(
     kernel: &mut Handle,
@@ -54,7 +56,7 @@ pub extern "C" fn lot_kernel_currency_row(
     }
 }
 
-/// Stores the row of the currency with this number, if it exists.
+/// Stores the row of the currency with this number, or returns `NotThere`.
 fn show_currency(kernel: &mut Kernel, currency: u32, row: &mut PlainCurrencyRow) -> u32
     ensures { ShowsCurrency currency result kernel.old kernel.new row.old row.new }
 {
@@ -67,7 +69,8 @@ fn show_currency(kernel: &mut Kernel, currency: u32, row: &mut PlainCurrencyRow)
     }
 }
 
-/// Stores the row of the thread with this number.
+/// Stores the row of the thread with this number. Returns `NoKernel` without a kernel, and `NotThere` if there is no
+/// such thread.
 #[unsafe(no_mangle)]
 pub extern "C" fn lot_kernel_thread_row(
     kernel: &mut Handle,
@@ -83,7 +86,7 @@ pub extern "C" fn lot_kernel_thread_row(
     }
 }
 
-/// Stores the row of the thread with this number, if it exists.
+/// Stores the row of the thread with this number, or returns `NotThere`.
 fn show_thread(kernel: &mut Kernel, thread: u32, row: &mut PlainThreadRow) -> u32
     ensures { ShowsThread thread result kernel.old kernel.new row.old row.new }
 {

@@ -16,7 +16,8 @@ use crate::wide::Wide;
 use lot_draw::ParkMiller;
 use lot_machine::Drawn;
 
-/// Stores the weight of a value in a draw. The compensation is in ticks; 0 means none.
+/// Stores the weight of a value in a draw (3.4, 4.5). The compensation and the quantum are in ticks; a compensation of
+/// 0 means none.
 #[unsafe(no_mangle)]
 pub extern "C" fn lot_weight(value: u64, compensation: u32, quantum: u32, weight: &mut Wide)
     ensures weight { weight.new ≡ plain_wide (lottery.weight value (compensation_meant compensation) quantum) }
@@ -25,7 +26,7 @@ pub extern "C" fn lot_weight(value: u64, compensation: u32, quantum: u32, weight
     *weight = Wide::of(lot_draw::weight(value, compensation_of(compensation), quantum));
 }
 
-/// The compensation for these ticks; none for 0.
+/// The compensation for these ticks, or none for 0.
 fn compensation_of(ticks: u32) -> Option<u32>
     ensures meant { result ≡ compensation_meant ticks }
     ensures used { IfSome result (λ used. 0 < used) }
@@ -62,11 +63,11 @@ impl PlainDrawn {
 #[repr(C)]
 #[derive(Clone, Copy)]
 pub struct PlainGenerator {
-    /// 1 to 2147483646.
+    /// 1 to 2147483646, unless C wrote it otherwise.
     pub value: u32,
 }
 
-/// Makes a generator with this seed.
+/// Makes a generator with this seed. Returns `BadSeed` for a seed of 0 or above 2147483646.
 #[unsafe(no_mangle)]
 pub extern "C" fn lot_generator_new(seed: u32, generator: &mut PlainGenerator) -> u32
     ensures good { IsBetween 1 2147483646 seed → (result ≡ code Done) × (generator.new.value ≡ seed) }
@@ -79,7 +80,7 @@ pub extern "C" fn lot_generator_new(seed: u32, generator: &mut PlainGenerator) -
     Status::Done.code()
 }
 
-/// Advances to the generator's next value and stores it.
+/// Advances to the generator's next value and stores it. Returns `BadSeed` for a generator out of its range.
 #[unsafe(no_mangle)]
 pub extern "C" fn lot_generator_next(generator: &mut PlainGenerator, value: &mut u32) -> u32
     ensures good { IsBetween 1 2147483646 generator.old.value
@@ -97,7 +98,8 @@ pub extern "C" fn lot_generator_next(generator: &mut PlainGenerator, value: &mut
     Status::Done.code()
 }
 
-/// Stores the number drawn from the generator's next two values, and advances to the second.
+/// Stores the number drawn from the generator's next two values, and advances to the second. Returns `BadSeed` for a
+/// generator out of its range.
 #[unsafe(no_mangle)]
 pub extern "C" fn lot_generator_number(generator: &mut PlainGenerator, number: &mut u64) -> u32
     ensures good { IsBetween 1 2147483646 generator.old.value
@@ -116,7 +118,8 @@ pub extern "C" fn lot_generator_number(generator: &mut PlainGenerator, number: &
     Status::Done.code()
 }
 
-/// Stores the wide number drawn from the generator's next four values, and advances to the fourth.
+/// Stores the wide number drawn from the generator's next four values, and advances to the fourth. Returns `BadSeed`
+/// for a generator out of its range.
 #[unsafe(no_mangle)]
 pub extern "C" fn lot_generator_wide_number(
     generator: &mut PlainGenerator,
@@ -139,7 +142,8 @@ pub extern "C" fn lot_generator_wide_number(
     Status::Done.code()
 }
 
-/// Holds a lottery with this number over the weights, which it reads where they are.
+/// Holds a lottery with this number over the weights, which it reads in place. Returns `NoWinner` if the weights sum to
+/// 0, and `TooLarge` if they sum to 2 ^ 128 or more.
 #[unsafe(no_mangle)]
 pub extern "C" fn lot_winner(weights: &[Wide], number: &Wide, drawn: &mut PlainDrawn) -> u32
     ensures won { (d : ADrawn) → sum (map wide_meant weights.now) < 2 ^ 128
@@ -158,7 +162,7 @@ pub extern "C" fn lot_winner(weights: &[Wide], number: &Wide, drawn: &mut PlainD
     }
 }
 
-/// The winner of a lottery with the number `d`, or the reason why there is none.
+/// The winner of a lottery with the number `d`, or `NoWinner` or `TooLarge`.
 fn winner(weights: &[Wide], d: u128) -> Result<Drawn, Status>
     ensures won { IfOk result (λ w. lottery.winner (map wide_meant weights.now) d ≡ Some w) }
     ensures within { IfOk result (λ w. w.place < length weights.now) }
@@ -192,7 +196,7 @@ fn total_of(weights: &[Wide]) -> Option<u128>
     Some(total)
 }
 
-/// The first place whose running sum is strictly greater than `number`, or the number of places if there is none.
+/// The first index whose running sum is strictly greater than `number`, or the number of weights if there is none.
 fn first_above(weights: &[Wide], number: u128) -> usize
     requires { sum (map wide_meant weights.now) < 2 ^ 128 }
     ensures place { result ≡ lottery.first_above number (running_sums 0 (map wide_meant weights.now)) }

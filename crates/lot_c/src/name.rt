@@ -32,7 +32,8 @@ impl PlainName {
         }
     }
 
-    /// The name in these fields, or the status for one that a kernel with these limits doesn't take.
+    /// The name in these fields. `LongName` if it has more than 16 bytes, `BadName` if a kernel with these limits
+    /// doesn't take it.
     pub(crate) fn read(&self, limits: &Limits) -> Result<Name, Status>
         ensures { result ≡ name_meant (sizes_of limits.now) self.now }
     {
@@ -43,8 +44,8 @@ impl PlainName {
         Ok(name)
     }
 
-    /// The name of a new thread in these fields, which may have none, or the status for one that a kernel with these
-    /// limits doesn't take.
+    /// The name of a new thread in these fields, which may have none. `LongName` if it has more than 16 bytes,
+    /// `BadName` if a kernel with these limits doesn't take it.
     pub(crate) fn read_thread(&self, limits: &Limits) -> Result<Name, Status>
         ensures { result ≡ thread_name_meant (sizes_of limits.now) self.now }
     {
@@ -55,7 +56,7 @@ impl PlainName {
         Ok(name)
     }
 
-    /// The bytes of the name, or the status for too many.
+    /// The bytes of the name, or `LongName` for more than 16.
     fn spelled(&self) -> Result<Name, Status>
         ensures { result ≡ (if nat_lt 16 self.now.length then Err LongName else Ok (spelled self.now)) }
     {
@@ -66,7 +67,7 @@ impl PlainName {
     }
 }
 
-/// Stores the name with these bytes, a good name.
+/// Stores the good name with these bytes. Returns `LongName` for more than 16 bytes, and `BadName` for any other name.
 #[unsafe(no_mangle)]
 pub extern "C" fn lot_name_new(bytes: &[u8], name: &mut PlainName) -> u32
     ensures good { length bytes.now ≤ 16 → names.is_good_name bytes.now ≡ true
@@ -85,8 +86,8 @@ pub extern "C" fn lot_name_new(bytes: &[u8], name: &mut PlainName) -> u32
     Status::Done.code()
 }
 
-/// Stores the name with these bytes, a plain name: any printable ASCII but the space. A kernel takes it if its sizes
-/// ask for plain names, or if it is a good name too.
+/// Stores the plain name with these bytes: any printable ASCII but the space. A kernel takes it if its sizes have plain
+/// names, or if it is a good name too. Returns `LongName` for more than 16 bytes, and `BadName` for any other name.
 #[unsafe(no_mangle)]
 pub extern "C" fn lot_plain_name_new(bytes: &[u8], name: &mut PlainName) -> u32
     ensures plain { length bytes.now ≤ 16 → names.is_plain_name bytes.now ≡ true

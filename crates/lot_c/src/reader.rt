@@ -10,8 +10,8 @@ use std::marker::{Model, Send};
 
 /// C's handle of a kernel in a call that only reads it: a `Handle` as it lies in memory.
 ///
-/// It doesn't own the kernel. C lends the kernel to such calls for a while in which nothing changes it, and each of
-/// them owns a share of the promise that this while lasts, so several may read at once.
+/// It doesn't own the kernel. C lends the kernel to such calls for a while in which nothing changes it. Each call owns
+/// a share of the promise that this while lasts, so several may read at once.
 #[repr(C)]
 pub struct ReadHandle {
     at: *mut u8,
@@ -24,10 +24,10 @@ impl Model for ReadHandle {
     ghost also_owns = { λ h. reader_owns h.at h.kernel h.life h.share };
 }
 
-/// Nobody changes what is lent, so readers may be on any thread.
+/// Nobody changes a lent kernel, so readers may be on any thread.
 unsafe impl Send for ReadHandle {}
 
-/// The same, which can be read through a reference. An export may take no such struct.
+/// The parts of a `ReadHandle`, readable through a reference. An export may take no such struct.
 #[repr(C)]
 pub(crate) struct Reader {
     at: *mut u8,
@@ -45,7 +45,7 @@ impl Model for Reader {
 impl ReadHandle {
     ghost use Rattle.lot_c.specs.Readers.{LendsReader, handle_of};
 
-    /// The handle where it is, as a reader.
+    /// The handle as a reader, in place.
     pub(crate) fn reader(&mut self) -> &mut Reader
         ensures* writes_back { sem 𝓛 (LendsReader self.entry result) }
         ensures value { (handle_of result.now ≡ self.old) × (result.now.kernel ≡ self.old.kernel) }
@@ -55,7 +55,7 @@ impl ReadHandle {
 }
 
 impl Reader {
-    /// Its kernel, or `None` if it has none.
+    /// The kernel, or `None` if the handle has none.
     pub(crate) fn get(&self) -> Option<&Kernel>
         ensures { MatchOption result (self.now.kernel ≡ None) (λ k. self.now.kernel ≡ Some k.now) }
     {

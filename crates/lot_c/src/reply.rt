@@ -65,7 +65,7 @@ const REPLIED_THEN_WAITS: u32 = 13;
 
 const SLEPT: u32 = 14;
 
-/// A reply in plain fields. Its kind, and a trap's outcome, determine which other fields are set; the rest are 0.
+/// A reply in plain fields. Its kind, and a trap's outcome, decide which other fields the library sets; the rest are 0.
 #[repr(C)]
 #[derive(Clone, Copy)]
 pub struct PlainReply {
@@ -74,7 +74,7 @@ pub struct PlainReply {
     /// The sum of a lottery's weights.
     pub total: Wide,
     pub kind: u32,
-    /// The reason for refusing an event or a trap.
+    /// The number of the refusal, of an event or a trap.
     pub reason: u32,
     pub ticket: u32,
     pub currency: u32,
@@ -118,7 +118,7 @@ impl PlainReply {
         goes_on: false,
     };
 
-    /// The reply in plain fields. If this were a separate call with copies of its result, an event would cost a fifth
+    /// The reply in plain fields. As a separate call, which copies its result, it would make an event cost a fifth
     /// more.
     #[inline(always)]
     pub(crate) fn of(reply: Reply) -> PlainReply
@@ -129,7 +129,7 @@ impl PlainReply {
             Reply::Currency(currency) => PlainReply::made(CURRENCY, 0, currency, 0),
             Reply::Thread(thread) => PlainReply::made(THREAD, 0, 0, thread),
             Reply::Funded { ticket, thread } => PlainReply::made(FUNDED, ticket, 0, thread),
-            Reply::Done => PlainReply::made(DONE, 0, 0, 0),
+            Reply::Done | Reply::Killed(_) => PlainReply::made(DONE, 0, 0, 0),
             Reply::List(kind) => PlainReply::made(number_of_list(kind), 0, 0, 0),
             Reply::Winner {
                 thread,
@@ -214,7 +214,7 @@ impl PlainReply {
         }
     }
 
-    /// The passing of a mutex to this thread, by this lottery if one was held.
+    /// A mutex passed to this thread, by this lottery if one was held.
     fn of_passed(to: u32, draw: Option<(u64, u64)>) -> PlainReply
         ensures { result ≡ plain_outcome (outcome.Passed to draw) }
     {
@@ -248,7 +248,7 @@ impl PlainReply {
         }
     }
 
-    /// This outcome, with this thread.
+    /// This outcome, with this other thread.
     fn came_to(outcome: u32, other: u32) -> PlainReply
         ensures { result ≡ record blank_reply { outcome = outcome; other = other } }
     {
@@ -293,7 +293,6 @@ fn number_of_list(kind: Kind) -> u32
     }
 }
 
-/// The number of a refusal.
 fn number_of_refusal(refusal: Refusal) -> u32
     ensures { result ≡ refusal_number refusal }
 {
@@ -322,7 +321,6 @@ fn number_of_refusal(refusal: Refusal) -> u32
     }
 }
 
-/// The number of a trap's refusal.
 fn number_of_trap_refusal(refusal: TrapRefusal) -> u32
     ensures { result ≡ trap_refusal_number refusal }
 {

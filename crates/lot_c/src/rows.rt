@@ -33,9 +33,9 @@ pub struct PlainTicketRow {
     pub amount: u32,
     /// The currency that issues it.
     pub issuer: PlainName,
-    /// The name of the currency or thread that it funds, without bytes for a thread without a name or no target.
+    /// The name of the currency or thread that it funds. No bytes mean a thread without a name, or no target.
     pub target: PlainName,
-    /// What it funds: 0 for nothing, 1 for a currency, 2 for a thread.
+    /// The kind of its target: 0 for none, 1 for a currency, 2 for a thread.
     pub target_kind: u32,
     /// The number of the currency or thread that it funds, and 0 if it funds nothing.
     pub target_number: u32,
@@ -72,7 +72,7 @@ fn target_kind(target: Target) -> u32
     }
 }
 
-/// The number of a target, and 0 without one.
+/// The number of a target, or 0 for none.
 fn target_number(target: Target) -> u32
     ensures { result ≡ rows.target_number target }
 {
@@ -82,7 +82,7 @@ fn target_number(target: Target) -> u32
     }
 }
 
-/// The name of a target, or no bytes without one.
+/// The name of a target, or no bytes for none.
 fn name_of_target(target: &Option<Name>) -> PlainName
     ensures { result ≡ plain_target target.now }
 {
@@ -177,9 +177,9 @@ impl PlainStatus {
 pub struct PlainThreadRow {
     pub weight: Wide,
     pub value: u64,
-    /// The draws that it has won.
+    /// The draws won.
     pub quanta: u64,
-    /// The total of ticks that it has used.
+    /// The ticks used in all.
     pub ticks: u64,
     pub status: PlainStatus,
     pub name: PlainName,

@@ -11,7 +11,8 @@ use crate::rows::{PlainCurrencyRow, PlainThreadRow, PlainTicketRow};
 use crate::status::Status;
 use lot_kernel::{CurrencyNumber, Kernel, Settled, ThreadNumber, TicketNumber};
 
-/// Recomputes all stale values, so that rows can be read until the next event.
+/// Recomputes all stale values, so that callers can read rows until the next event. Returns `NoKernel` without a
+/// kernel.
 #[unsafe(no_mangle)]
 pub extern "C" fn lot_kernel_settle(kernel: &mut Handle) -> u32
     ensures { Through kernel.old.kernel kernel.new.kernel (result ≡ code NoKernel) (IsSettledBy result) }
@@ -30,7 +31,8 @@ fn settle(kernel: &mut Kernel) -> u32
     Status::Done.code()
 }
 
-/// Stores the row of the ticket with this number, if no value is stale.
+/// Stores the row of the ticket with this number. Returns `NoKernel` without a kernel, `NotSettled` if a value is
+/// stale, and `NotThere` if there is no such ticket.
 #[unsafe(no_mangle)]
 pub extern "C" fn lot_kernel_settled_ticket_row(
     kernel: &mut ReadHandle,
@@ -47,7 +49,7 @@ pub extern "C" fn lot_kernel_settled_ticket_row(
     }
 }
 
-/// Stores the row of the ticket with this number, if it exists and no value is stale.
+/// Stores the row of the ticket with this number, or returns `NotSettled` or `NotThere`.
 fn show_ticket(kernel: &Kernel, ticket: u32, row: &mut PlainTicketRow) -> u32
     ensures { ShowsSettledTicket ticket result kernel.now row.old row.new }
 {
@@ -63,7 +65,8 @@ fn show_ticket(kernel: &Kernel, ticket: u32, row: &mut PlainTicketRow) -> u32
     }
 }
 
-/// Stores the row of the currency with this number, if no value is stale.
+/// Stores the row of the currency with this number. Returns `NoKernel` without a kernel, `NotSettled` if a value is
+/// stale, and `NotThere` if there is no such currency.
 #[unsafe(no_mangle)]
 pub extern "C" fn lot_kernel_settled_currency_row(
     kernel: &mut ReadHandle,
@@ -80,7 +83,7 @@ pub extern "C" fn lot_kernel_settled_currency_row(
     }
 }
 
-/// Stores the row of the currency with this number, if it exists and no value is stale.
+/// Stores the row of the currency with this number, or returns `NotSettled` or `NotThere`.
 fn show_currency(kernel: &Kernel, currency: u32, row: &mut PlainCurrencyRow) -> u32
     ensures { ShowsSettledCurrency currency result kernel.now row.old row.new }
 {
@@ -96,7 +99,8 @@ fn show_currency(kernel: &Kernel, currency: u32, row: &mut PlainCurrencyRow) -> 
     }
 }
 
-/// Stores the row of the thread with this number, if no value is stale.
+/// Stores the row of the thread with this number. Returns `NoKernel` without a kernel, `NotSettled` if a value is
+/// stale, and `NotThere` if there is no such thread.
 #[unsafe(no_mangle)]
 pub extern "C" fn lot_kernel_settled_thread_row(
     kernel: &mut ReadHandle,
@@ -113,7 +117,7 @@ pub extern "C" fn lot_kernel_settled_thread_row(
     }
 }
 
-/// Stores the row of the thread with this number, if it exists and no value is stale.
+/// Stores the row of the thread with this number, or returns `NotSettled` or `NotThere`.
 fn show_thread(kernel: &Kernel, thread: u32, row: &mut PlainThreadRow) -> u32
     ensures { ShowsSettledThread thread result kernel.now row.old row.new }
 {

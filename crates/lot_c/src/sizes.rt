@@ -20,11 +20,11 @@ pub struct PlainSizes {
     pub scripts: u32,
     pub quantum: u32,
     pub unit: u32,
-    /// 0 if each number is given once, otherwise numbers are given again.
+    /// 0 if each number is given once; otherwise the kernel has `reuse`.
     pub reuse: u32,
-    /// 0 if names are good names, otherwise any printable ASCII but the space is good in a name.
+    /// 0 if names are good names; otherwise a name may have any printable ASCII but the space.
     pub plain_names: u32,
-    /// 0 if a thread whose call is queued lends to nobody, otherwise it lends to the port's server.
+    /// 0 if a thread whose call is queued lends to nobody; otherwise it lends to the port's server.
     pub queued_lend: u32,
 }
 
@@ -73,7 +73,7 @@ impl PlainSizes {
     }
 }
 
-/// The counters, in plain fields.
+/// The meter in plain fields.
 #[repr(C)]
 #[derive(Clone, Copy)]
 pub struct PlainMeter {
@@ -82,7 +82,7 @@ pub struct PlainMeter {
 }
 
 impl PlainMeter {
-    /// The counts in plain fields.
+    /// The meter in plain fields.
     pub(crate) fn of(meter: Meter) -> PlainMeter
         ensures { result ≡ plain_meter meter }
     {
@@ -98,7 +98,7 @@ impl PlainMeter {
 #[derive(Clone, Copy)]
 pub struct PlainRunner {
     pub thread: u32,
-    /// In ticks, below the quantum.
+    /// The ticks of the quantum used, below the quantum.
     pub used: u32,
 }
 

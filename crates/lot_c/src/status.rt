@@ -2,7 +2,8 @@
 ghost use Rattle.std.specs.Prelude.{◌≡◌};
 ghost use Rattle.lot_c.specs.Numbers as numbers;
 
-/// The status of a call. Any other than `Done` means that the call changed nothing.
+/// The status of a call. With any other than `Done` the call changed nothing, except `lot_kernel_run`, which makes the
+/// events before the faulty one.
 #[derive(Clone, Copy, Debug, PartialEq, Eq)]
 pub(crate) enum Status {
     Done = 0,
@@ -14,13 +15,13 @@ pub(crate) enum Status {
     BadLimits = 3,
     /// Out of memory.
     NoMemory = 4,
-    /// There is no such kind of event.
+    /// No event has this kind.
     BadKind = 5,
     /// A name of more than 16 bytes.
     LongName = 6,
-    /// A name that the kernel doesn't take, or that isn't of the kind to be made.
+    /// A name that the kernel doesn't take, or that the call doesn't make.
     BadName = 7,
-    /// Nothing exists with this number.
+    /// Nothing has this number.
     NotThere = 8,
     /// The number of replies differs from the number of events.
     CountsDiffer = 9,

@@ -1,4 +1,4 @@
-//! Numbers of 128 bits in plain fields.
+//! 128-bit numbers in plain fields.
 ghost use Rattle.std.specs.Prelude.{◌≡◌};
 ghost use Rattle.lot_c.specs.Wides.{plain_wide, wide_meant};
 

@@ -1,4 +1,4 @@
--- What is due at the end of a picture, and in the report.
+-- The dues at the end of a picture, and in the report.
 use Rattle.lot_chart.proofs.Common.{Bool, IsNonDecreasing, IsWithinBounds, List, Program, State, Stretch, Thread, TimedTurn, ap, arith, cases_eq, div-eq_of_lt, due_after, due_from, due_in, due_part, due_rate, due_to, dues_in, eq-eqb, false, fold, get_or, if◌then◌else◌, inl, inr, last_end, leb-true, length, length-map, live_part, live_ticks, live_time, live_value, makes, map, max, nat_le, ne_eqb, opening, refl, suc, sum_until, tick_parts, time_after, time_from, timed_stretches, timed_turns, times-rise, true, value_of, ℕ, [], ⊤, ◌*◌, ◌+◌, ◌-◌, ◌/◌, ◌<◌, ◌==◌, ◌∙◌, ◌∷◌, ◌≡◌, ◌≢◌, ◌≤◌, ◌⊎◌}
 use Rattle.lot_chart.proofs.NotedFacts.{timed_stretch}
 

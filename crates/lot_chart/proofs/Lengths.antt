@@ -1,4 +1,4 @@
--- Lengths of texts that are put together from parts.
+-- Lengths of texts in parts.
 use Rattle.lot_chart.proofs.Common.{All, List, arith, flat_map, length, length-append, length-flat_map, subst, sum_by-le, sym, ℕ, ◌*◌, ◌++◌, ◌+◌, ◌≤◌}
 
 -- two parts, one after the other

@@ -1,4 +1,4 @@
--- What is due in the turns of a program.
+-- The dues in the turns of a program.
 use Rattle.lot_chart.proofs.Common.{Answered, Answers, AreColumns, AreDues, AreLinesOf, By, Currencies, Currency, Curves, Due, Dues, EachGauge, Gauge, Growth, HasJustMade, HasPassed, HasPassedAll, HasRenewed, HaveDues, IsAscending, IsAwaiting, IsColumn, IsDispatch, IsGauge, IsGaugeOf, IsMeter, IsNew, IsNewMeter, IsNow, IsRead, IsRenewed, IsSampled, IsSound, IsWithin, IsWithinBounds, KeepThreads, LineDues, List, Live, MadeTurn, Marks, Meter, None, Option, PlotLine, Program, Seen, Some, Standing, State, Thread, Threads, TimedTurn, TurnMade, World, amount_for, answer_in, ap, arith, at_number-suc, cases_lt, div-mul-le_self, due_to, dues_by, dues_in, end_tick, false, flow_at, flow_of, get_or, get_or-map-range_with_len, get_or_append_left, get_or_push, height_of, if◌then◌else◌, inl, inr, is_live, last_end, le-div, length, length-map-range_with_len, length_push, lines_after, lines_of, map, map_push, max, most_of, mul-le-mul_right, opening, opening_world, option_any, own_value, place_of, program_turns, range_with_len, refl, sample_count, sample_tick, slice_index, start_of, start_tick, state_of, subst, suc, sum_by, sum_by-cons, sum_until, sym, system_run, system_turn, thread_of, time-more, time_after, timed_turn, timed_turns, turn-answers, turns_by, turns_in_time, unwrap_or, value-kept, value_of, whole-kept, whole_value, world-one_more, world_of, zero, zero-add, ℕ, [], ◌*◌, ◌++◌, ◌+◌, ◌-◌, ◌<◌, ◌^◌, ◌∙◌, ◌∷◌, ◌≡◌, ◌≤◌, ◌⊎◌}
 use Rattle.lot_playback.specs.declared.turn.Turn.{Turn as ATurn}
 use Rattle.lot_chart.proofs.TableSizes.{sample-early}

@@ -1,4 +1,4 @@
--- A thread's record has the ticks of the turns that name it.
+-- A thread's record has the ticks of the turns that name the thread.
 use Rattle.lot_chart.proofs.Common.{Action, ActorTurn, Answered, BadProcessor, BadTicks, Bool, Comes, Command, Console, Drawn, Event, Idle, IsBetween, IsInOrder, IsLegal, IsMade, IsWithinBounds, Keeps, Kill, List, NewThread, None, NotRunning, Option, Program, PutRecord, Record, Refusal, Sizes, Some, State, Status, Step, Stretch, Thread, ThreadRow, Ticks, TimedTurn, TurnAnswer, TurnMade, World, actor-made, actor_event, actor_turns, after-even, after_trap, all-pass, ap, arith, as-much, at_number, beside, change-leaves, change_record, charged_thread, checked-even, checked-sizes, checked_effect, comes-same, comes-then, command-leads, command-silent, command_step, cond, console_turn, count_in, draw, ended_after, eqb-false, eqb-true, event_effect, expire, false, free_threads, get_or, get_or-set_other, get_or-set_same, had_at, if◌then◌else◌, is_bad_processor, is_none, kept, kill-even, last_end, last_moment, length, length-map, ltb-false, map, map-append, map-set, min-eq_left, nat_lt, newborn, next_name, number-some, opening, opening-order, opening_world, option_and_then, option_map, placed, processor_turn, ready_threads, refl, resolved, row_of_thread, saturated, set, set_number, slice_index, slice_set, started, step, step-limits, step-order, stretch_of, stretches_made, stretches_of, subst, suc, sum_by, sum_by-cons, sym, system_after, system_answers, system_run, system_turn, there-has, there-numbered, thread_name, thread_on, thread_row, thread_there, ticks-at_last, ticks_in, timed-made, timed-world, timed_schedule, timed_stretches, timed_turns, total_of, trap, trap_effect, trap_refusal, true, turns_made, turns_of, unless_refused, used_there, wake, weight_of, winner, with_ticks, zero, ℕ, [], ◌*◌, ◌++◌, ◌+◌, ◌-◌, ◌<◌, ◌==◌, ◌^◌, ◌∙◌, ◌∷◌, ◌≡◌, ◌≢◌, ◌≤◌}
 use Rattle.lot_machine.specs.declared.record.Status.TheVariants as status
 use Rattle.lot_machine.specs.declared.event.Event.TheVariants as event

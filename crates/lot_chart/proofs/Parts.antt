@@ -1,4 +1,4 @@
--- Texts that are put part by part.
+-- Texts appended in parts.
 use Rattle.lot_chart.proofs.Common.{List, add-zero, ap, append_assoc, arith, flat_map, flat_map_more, get_or, length, map, map-range_with_len_more, range_with_len, suc, sym, take, take_more, zero, zero-add, ℕ, [], ◌++◌, ◌+◌, ◌<◌, ◌∙◌, ◌∷◌, ◌≡◌}
 
 -- the part of one number more

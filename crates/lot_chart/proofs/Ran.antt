@@ -1,4 +1,4 @@
--- The thread that ran in a turn, and the currencies that were found above it.
+-- The thread that ran in a turn, and the currencies found above it.
 use Rattle.lot_chart.proofs.Common.{Answered, Bool, By, Command, Drawn, Ended, EndedTurn, Err, Event, FoundNodes, HasFound, HasLooked, HasSearched, HasThoseAbove, IsBetween, IsTrue, List, None, Ok, OnOk, Option, Program, RanOn, Record, Refusal, Reply, Result, Running, ScriptTrap, Slice, Some, State, Step, Stretch, TurnAnswer, World, action_of, actor_event, ap, append-nil, append_assoc, arith, cases_eq, command_effect, command_refusal, console_turn, currencies_above, currency_numbers, draw, drop, eq-eqb, event-for, event_effect, event_for, event_of_slice, event_refusal, false, filter, filter-append, found-runs, has_run, if◌then◌else◌, in_column, inl, inr, length, map, map-append, nat_le, ne_eqb, next_name, number_of, numbered, numbers-push, processor_event, range_with_len, ready_threads, refl, resolved, slice_on, stands_below, step, stretch_of, subst, suc, sym, system_turn, thread_on, thread_there, true, turn_stretches, unless_refused, unwrap_or, weight_of, winner, ℕ, [], ◌++◌, ◌+◌, ◌-◌, ◌<◌, ◌==◌, ◌↔◌, ◌∙◌, ◌∷◌, ◌≡◌, ◌≢◌, ◌≤◌, ◌⊎◌}
 use Rattle.lot_machine.specs.declared.command.Command.TheVariants as command
 use Rattle.lot_machine.specs.declared.event.Event.TheVariants as event
@@ -104,6 +104,7 @@ above-found s actor e (reply.Currency n) above count ran on looked = cc
 above-found s actor e (reply.Thread n) above count ran on looked = cc
 above-found s actor e (reply.Funded ticket thread) above count ran on looked = cc
 above-found s actor e reply.Done above count ran on looked = cc
+above-found s actor e (reply.Killed n) above count ran on looked = cc
 above-found s actor e (reply.List kind) above count ran on looked = cc
 above-found s actor e (reply.Winner thread number total delivered) above count ran on looked = cc
 above-found s actor e reply.Idle above count ran on looked = cc
@@ -122,6 +123,7 @@ above-none s e (reply.Currency n) ran = filter-none (currency_numbers s)
 above-none s e (reply.Thread n) ran = filter-none (currency_numbers s)
 above-none s e (reply.Funded ticket thread) ran = filter-none (currency_numbers s)
 above-none s e reply.Done ran = filter-none (currency_numbers s)
+above-none s e (reply.Killed n) ran = filter-none (currency_numbers s)
 above-none s e (reply.List kind) ran = filter-none (currency_numbers s)
 above-none s e (reply.Winner thread number total delivered) ran = filter-none (currency_numbers s)
 above-none s e reply.Idle ran = filter-none (currency_numbers s)

@@ -1,4 +1,4 @@
--- Sums that are read while turns go by.
+-- Sums sampled from turn to turn.
 use Rattle.lot_chart.proofs.Common.{Bool, By, Currency, Due, Gauge, Growth, HasPassed, HaveRead, HaveReadAll, IsAscending, IsGauge, IsNow, IsRead, IsRenewed, IsSound, IsWithin, List, Live, Marks, None, Option, Some, State, Thread, TimedTurn, amount_for, ap, append-nil, append_assoc, arith, cases_lt, due_to, false, flow_at, flow_of, grown, if◌then◌else◌, inl, inr, le-leb, length, lt-leb, min, most_of, mul-div-le, mul-le-mul_right, own_value, rate_in, refl, shared_ticks, slice_index, step_of, subst, sum_until, sym, thread_of, tick_parts, true, whole_value, ℕ, [], ◌*◌, ◌++◌, ◌+◌, ◌-◌, ◌/◌, ◌<◌, ◌==◌, ◌^◌, ◌∙◌, ◌∷◌, ◌≡◌, ◌≤◌, ◌⊎◌}
 use Rattle.lot_chart.proofs.Worth.{own-within}
 

@@ -1,4 +1,4 @@
--- What is written of curves.
+-- The text written for curves.
 use Rattle.lot_chart.proofs.Common.{AllocError, Curves, Done, Err, IfOk, IoFault, List, Memory, None, Ok, Option, Played, Plays, Result, Shows, Some, Watch, ap, false, refl, subst, sym, ℕ, ◌∙◌, ◌≡◌}
 use Rattle.std.specs.Io.KnownBytes.{Keeps}
 

@@ -1,4 +1,4 @@
--- How long a picture is at most.
+-- The largest length of a picture.
 use Rattle.lot_chart.proofs.Common.{All, All-cons, All-nil, Bool, By, Currency, Curves, Dues, List, None, Option, PlotLine, Some, Standing, Stretch, Thread, Ticks, across, ap, arith, at_number, at_number-suc, axes, axis_step, chart, codes, colour, column_mark, command_mark, command_marks, cond, curve, decimal, drawn_of, due_curve, due_curves, due_height, due_point, due_points, escaped, escaped_byte, false, find, first_in, flat_map, frame, get_or, get_or-map-range_with_len, get_or_from_slice_get, had_in, head, height_mark, height_of, heights_label, highest, label, last_end, lead, leader, leb-true, length, length-decimal-le, length-map-range_with_len, length-range_with_len, lines_after, lines_in, lines_label, list_all, longest_name, ltb-true, map, mark_count, marks, measure_label, mod_below, most_shown, mul-le-mul_left, mul-le-mul_right, name_of, name_text, nat_le, nat_lt, place_of, point, point_at, points, range_with_len, refl, sample_count, sample_point, sample_tick, selection, share_of, slice_get_within, stands_in, steps, stroke, strokes, subst, suc, sym, tenths, time_mark, time_mark_count, time_marks, top_at, tops, total, true, unwrap_or, width_for, zero, ℕ, [], ◌%◌, ◌&&◌, ◌*◌, ◌++◌, ◌+◌, ◌-◌, ◌/◌, ◌<◌, ◌==◌, ◌^◌, ◌∙◌, ◌∷◌, ◌≡◌, ◌≤◌}
 use Rattle.lot_chart.specs.Charts.{picture}
 use Rattle.lot_chart.specs.Marks.{marked}

@@ -1,4 +1,4 @@
--- How long a table is at most.
+-- The largest length of a table.
 use Rattle.lot_chart.proofs.Common.{All, Bool, Curves, Draws, List, Measure, None, Option, Some, Stretch, Ticks, arith, codes, cond, decimal, div-le_of_le-mul, false, figure_text, flat_map, get_or, get_or-map-range_with_len, header_line, last_end, length, length-decimal-le, length-map-range_with_len, max, mul-le-mul_right, nat_le, next_field, part_at, part_in, row_at, row_line, sample_count, sample_tick, sample_ticks, sampled_line, samples-few, share_of, shown_at, subst, sum-filter, sum_by-le, sym, table, true, whole_at, ℕ, ◌*◌, ◌++◌, ◌+◌, ◌-◌, ◌<◌, ◌==◌, ◌^◌, ◌≡◌, ◌≤◌}
 use Rattle.lot_chart.proofs.Lengths.{all-short, both}
 use Rattle.lot_chart.proofs.Sizes.{tenths-short}

@@ -1,5 +1,5 @@
--- Reached states are sound: so no thread and no currency is worth more than the whole, and a currency that doesn't exist
--- is worth nothing.
+-- Reached states are sound: no thread and no currency is worth more than the total value, and a currency that doesn't
+-- exist is worth 0.
 use Rattle.lot_chart.proofs.Common.{Bool, By, Currency, Funding, IsSound, IsWithinBounds, List, None, Option, Program, Some, State, Thread, Threads, Ticket, ap, arith, currency-bounded, false, filter, filter_map, funding_of, get_or, inl, inr, is_currency, is_currency-is, is_some, length, length-map, live_of, option_flatten, order-sound, own_value, refl, run-in-order, slice_get, slice_get_cases, suc, sum_by, sym, system_run, target-of, ticket_in, ticket_in-suc, true, value-within, whole_value, worth_of, zero, ℕ, [], ◌<◌, ◌∙◌, ◌∷◌, ◌≡◌, ◌≤◌, ◌⊎◌}
 
 -- ---- reached states

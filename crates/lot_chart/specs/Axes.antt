@@ -20,9 +20,9 @@ mark_count most = min (most / max (axis_step most) 1) 5
 abbrev pub marks : ℕ → List ℕ
 marks most = map (λ n. n * axis_step most) (range_with_len 0 (mark_count most + 1))
 
--- ---- the axis of time, which begins at an origin
+-- ---- the time axis, which begins at an origin
 
--- the distance from the origin to the first multiple of the step, from the origin itself on
+-- the distance from the origin to the first multiple of the step at or after it
 abbrev pub lead : ℕ → ℕ → ℕ
 lead step origin = (step - origin % step) % step
 

@@ -36,13 +36,13 @@ head width title =
     ++ (escaped title ++ (codes "</title>\n<rect width='" ++ (decimal width
     ++ (codes "' height='540' fill='#ffffff'/>\n<text x='100' y='34' font-size='18'>" ++ (escaped title ++ codes "</text>\n")))))))))
 
--- the mark of a number of ticks, or of a percentage, on the axis of heights, and a thin line from it across the plot
+-- the mark of a number of ticks, or of a percentage, on the vertical axis, and a thin line from it across the plot
 abbrev pub height_mark : ℕ → ℕ → List ℕ
 height_mark most ticks =
     codes "<path d='M100 " ++ (tenths (height_of most ticks) ++ (codes "H770' stroke='#dddddd'/>\n<text x='92' y='"
     ++ (tenths (height_of most ticks) ++ (codes "' dy='4' text-anchor='end'>" ++ (decimal ticks ++ codes "</text>\n")))))
 
--- the mark of a tick on the axis of time; the tick counts from the curves' origin, and its number from tick 0
+-- the mark of a tick on the time axis; the tick counts from the curves' origin, and its number from tick 0
 abbrev pub time_mark : Curves → ℕ → List ℕ
 time_mark curves tick =
     codes "<path d='M" ++ (tenths (across (last_end curves.stretches) tick) ++ (codes " 460v5' stroke='#222222'/>\n<text x='"
@@ -54,35 +54,35 @@ command_mark curves time =
     codes "<path d='M" ++ (tenths (across (last_end curves.stretches) (time - curves.origin))
     ++ (codes " 60V460' stroke='#bbbbbb' stroke-dasharray='3 3'><title>command at " ++ (decimal time ++ codes "</title></path>\n")))
 
--- the mark of a column, if a command stands there
+-- the mark of a column, if a command is in it
 abbrev pub column_mark : Curves → Option ℕ → List ℕ
 column_mark curves None = []
 column_mark curves (Some time) = command_mark curves time
 
--- the marks at the times of commands, one for each column in which a command stands
+-- the marks at the times of commands, one for each column with a command
 abbrev pub command_marks : Curves → List ℕ
 command_marks curves = flat_map (column_mark curves) (marked curves)
 
--- the number at the top of the axis of heights: the most ticks of a line, or with a window 100 percent
+-- the number at the top of the vertical axis: the most ticks of a line, or 100 percent with a window
 abbrev pub highest : Option ℕ → ℕ → ℕ
 highest None most = most
 highest (Some window) most = 100
 
--- what lines show
+-- the subject of the lines
 abbrev pub lines_label : By → List ℕ
 lines_label Thread = codes "what each thread has run"
 lines_label Currency = codes "what the threads of each currency have run"
 
--- how it is measured
+-- the measure of the vertical axis
 abbrev pub measure_label : Option ℕ → List ℕ
 measure_label None = codes ", in ticks"
 measure_label (Some window) = codes " in the last " ++ (decimal window ++ codes " ticks, in percent")
 
--- what heights mean
+-- the label of the vertical axis
 abbrev pub heights_label : By → Option ℕ → List ℕ
 heights_label by window = lines_label by ++ measure_label window
 
--- the lines of both axes, and their labels
+-- both axes without marks, and their labels
 abbrev pub frame : By → Option ℕ → List ℕ
 frame by window =
     codes "<path d='M100 60V460H770' fill='none' stroke='#222222'/>\n<text x='435' y='512' text-anchor='middle'>time, in ticks</text>\n<text transform='translate(14 260) rotate(-90)' text-anchor='middle'>"
@@ -106,8 +106,8 @@ colour style =
 abbrev pub strokes : ℕ → List ℕ
 strokes style = if nat_le 8 style then codes " stroke-dasharray='7 4'" else []
 
--- the ticks that the top of the plot stands for at a tick: with a window all in the one that ends there, and otherwise
--- the most
+-- the ticks at the top of the plot, at this tick: with a window all ticks of the window that ends there, otherwise the
+-- most
 abbrev pub top_at : Curves → ℕ → ℕ → ℕ
 top_at curves most tick = unwrap_or (whole_at Ticks curves tick) most
 
@@ -133,7 +133,7 @@ abbrev pub points : Curves → List ℕ → List Stretch → List ℕ
 points curves tops stretches =
     flat_map (sample_point curves tops stretches) (range_with_len 0 (sample_count (last_end curves.stretches) + 1))
 
--- the stretches that a line shows: those of its thread or currency, or of all threads without a line
+-- the stretches of a line: those of its thread or currency, or of all threads without a line
 abbrev pub drawn_of : Curves → List Stretch → ℕ → List Stretch
 drawn_of curves others thread = if thread == 0 then others else stretches_of thread curves.stretches
 
@@ -145,9 +145,9 @@ stroke style = codes "' stroke='" ++ (colour style ++ (codes "'" ++ (strokes sty
 abbrev pub curve : Curves → List Stretch → List ℕ → PlotLine → List ℕ
 curve curves others tops line = codes "<polyline points='" ++ (points curves tops (drawn_of curves others line.thread) ++ stroke line.style)
 
--- ---- what they are due
+-- ---- dues
 
--- the point of a sample for what a line is due, given the tops at all samples
+-- the point of a sample for the due of a line, given the tops at all samples
 abbrev pub due_point : Curves → Dues → List Standing → List ℕ → ℕ → ℕ → List ℕ
 due_point curves dues shown tops thread sample =
     point_at curves (sample_tick (last_end curves.stretches) sample) (due_height curves (slice_index tops sample) dues shown thread (sample_tick (last_end curves.stretches) sample))
@@ -157,12 +157,12 @@ abbrev pub due_points : Curves → Dues → List Standing → List ℕ → ℕ �
 due_points curves dues shown tops thread =
     flat_map (due_point curves dues shown tops thread) (range_with_len 0 (sample_count (last_end curves.stretches) + 1))
 
--- what a line is due, as a line of its own in the same colour
+-- the due of a line, as a line of its own in the same colour
 abbrev pub due_curve : Curves → Dues → List Standing → List ℕ → PlotLine → List ℕ
 due_curve curves dues shown tops line =
     codes "<polyline points='" ++ (due_points curves dues shown tops line.thread ++ stroke line.style)
 
--- what each line is due, as thin lines; nothing if the program isn't timed
+-- the due of each line, as thin lines; nothing if the program isn't timed
 abbrev pub due_curves : Curves → Option Dues → List Standing → List ℕ → List PlotLine → List ℕ
 due_curves curves None shown tops lines = []
 due_curves curves (Some dues) shown tops lines =
@@ -190,11 +190,11 @@ label names total line = leader line ++ name_text names total line
 
 -- ---- the picture
 
--- the ticks of all turns, or with a window those in the last
+-- the ticks of all turns, or of the last window
 abbrev pub total : Curves → ℕ
 total curves = total_at Ticks curves (last_end curves.stretches)
 
--- the most ticks at the end of a line, or due to one if that is more
+-- the most ticks at the end of a line, or due to a line if that is more
 abbrev pub most_shown : Curves → Option Dues → List Standing → ℕ
 most_shown curves dues shown = max (most_in shown) (most_due curves dues shown)
 
@@ -206,11 +206,11 @@ lines_in curves most selected = lines_of (top_at curves most (last_end curves.st
 abbrev pub longest_name : List (List ℕ) → List PlotLine → ℕ
 longest_name names lines = fold (λ most line. max (length (name_of names line.thread)) most) 0 lines
 
--- the width of the picture, in its unit: room for the longest name and its share, and for the title, but at most 1040
+-- the width of the picture, in its unit: room for the longest name and its share, and for the title, up to 1040
 abbrev pub width_for : ℕ → ℕ → ℕ
 width_for name title = min 1040 (max (848 + 12 * name) (110 + 11 * title))
 
--- the picture with these lines, behind which is what they are due, given the most ticks
+-- the picture with these lines, and their dues behind them, given the most ticks
 unfoldable pub picture : List ℕ → Curves → Option Dues → Selected → ℕ → List PlotLine → List ℕ
 picture title curves dues selected most lines =
     head (width_for (longest_name curves.names lines) (length title)) title ++ (axes curves most
@@ -218,7 +218,7 @@ picture title curves dues selected most lines =
     ++ (codes "<g fill='none' stroke-width='2' stroke-linejoin='round'>\n" ++ (flat_map (curve curves selected.others (tops curves most)) lines
     ++ (codes "</g>\n" ++ (flat_map (label curves.names (total curves)) lines ++ codes "</svg>\n"))))))
 
--- the picture of the curves, with this title, and with what is due if it is given
+-- the picture of the curves with this title, and with these dues, if any
 abbrev pub chart : List ℕ → Option Dues → Curves → List ℕ
 chart title dues curves = scaled_to (most_shown curves dues (selection curves).shown)
   where

@@ -1,4 +1,4 @@
--- Sums that grow from turn to turn, and what was read of them at ticks.
+-- Sums that grow from turn to turn, sampled at ticks.
 use Rattle.std.specs.Prelude.{◌≡◌, ⊤, ℕ, ◌+◌, ◌-◌, ◌*◌, ◌/◌, ◌^◌, ◌<◌, ◌≤◌, ◌==◌, min, Option, Some, None, unwrap_or, List, [], ◌++◌, length, map, slice_index, slice_index_or, if◌then◌else◌}
 use Rattle.std.specs.List.{range_with_len}
 use Rattle.lot_machine.specs.Bounds.{IsWithinBounds}
@@ -27,32 +27,32 @@ use Rattle.lot_chart.specs.Dues.{Dues, due_to, grown_at, own_value, shared_ticks
 
 -- ---- growth
 
--- the thread or currency of which a sum counts what it is due, or none if it counts time
+-- the thread or currency whose dues the sum counts, or none if it counts time
 abbrev pub thread_of : Growth → Option ℕ
 thread_of Live = None
 thread_of (Due thread value) = Some thread
 
--- by how much a sum grows in so many ticks, if what is shared out is worth this much
+-- the growth of a sum over this many ticks, given the total value
 abbrev pub grown : Growth → ℕ → ℕ → ℕ
 grown Live value ticks = if value == 0 then 0 else ticks
 grown (Due thread own) value ticks = own * (if value == 0 then 0 else (ticks * tick_parts + (value - 1)) / value)
 
--- what a sum counts while the state stays so for this many ticks
+-- the growth of a sum while the state lasts this many ticks
 abbrev pub amount_for : By → Option ℕ → State → ℕ → ℕ
 amount_for by None s ticks = shared_ticks by s ticks
 amount_for by (Some t) s ticks = due_to by t s ticks
 
--- the thread's or currency's own value is no more than this
+-- the value of the thread or currency is at most this
 abbrev pub IsWithin : ℕ → Growth → Type 0
 IsWithin value Live = ⊤
 IsWithin value (Due thread own) = own ≤ value
 
--- the thread's or currency's own value is that of this state
+-- the value of the thread or currency is the one in this state
 abbrev pub IsNow : By → State → Growth → Type 0
 IsNow by s Live = ⊤
 IsNow by s (Due thread own) = own ≡ own_value by s thread
 
--- the sum at a tick, if no turn comes before it; it ends at the largest number
+-- the sum at a tick, if no turn comes before it; it saturates at the largest number
 abbrev pub flow_at : Flow → ℕ → ℕ
 flow_at flow tick = min (flow.sum + grown flow.growth flow.whole_value (tick - flow.since)) (2 ^ 128 - 1)
 
@@ -78,9 +78,9 @@ end_ticks curves = map (end_tick curves) (range_with_len 0 (sample_count (last_e
 abbrev pub start_ticks : Curves → List ℕ
 start_ticks curves = map (start_tick curves) (range_with_len 0 (sample_count (last_end curves.stretches) + 1))
 
--- ---- readings
+-- ---- samples of sums
 
--- a sum was read at further ticks, up to this time
+-- a sum was sampled at the next ticks, up to this time
 pub record HaveRead (at : ℕ → ℕ) (ticks : List ℕ) (time : ℕ) (old new : List ℕ) : Type 0 where
   pub more : length old ≤ length new
   pub kept : (k : ℕ) → k < length old → slice_index new k ≡ slice_index old k
@@ -88,12 +88,12 @@ pub record HaveRead (at : ℕ → ℕ) (ticks : List ℕ) (time : ℕ) (old new 
   pub early : (k : ℕ) → length old ≤ k → k < length new → slice_index ticks k ≤ time
   pub read : (k : ℕ) → length old ≤ k → k < length new → slice_index new k ≡ at (slice_index ticks k)
 
--- and at all of them
+-- a sum was sampled at all ticks
 pub record HaveReadAll (at : ℕ → ℕ) (ticks : List ℕ) (time : ℕ) (old new : List ℕ) : Type 0 where
   pub have : HaveRead at ticks time old new
   pub all : length new < length ticks → time < slice_index ticks (length new)
 
--- a gauge has passed a stretch of time in which what is shared out was worth this much
+-- a gauge has passed a stretch of time with this total value
 pub record HasPassed (marks : Marks) (value since time : ℕ) (old new : Gauge) : Type 0 where
   pub growth : new.growth ≡ old.growth
   pub sum : new.sum ≡ flow_at (flow_of value since old) time
@@ -106,19 +106,19 @@ pub record HasPassed (marks : Marks) (value since time : ℕ) (old new : Gauge) 
 abbrev pub IsAscending : List ℕ → Type 0
 IsAscending ticks = (j k : ℕ) → j ≤ k → k < length ticks → slice_index ticks j ≤ slice_index ticks k
 
--- These were read of a sum after these turns, whichever come next: those at later ticks will grow from the sum so far.
+-- The samples of a sum after these turns, whichever turns come next: later samples grow from the sum so far.
 pub record IsRead (amount : State → ℕ → ℕ) (first : State) (done : List TimedTurn) (s : State) (time sum most : ℕ) (ticks read : List ℕ) : Type 0 where
   pub few : length read ≤ length ticks
   pub settled : (k : ℕ) → k < length read → (others : List TimedTurn) → slice_index read k ≡ sum_until amount first 0 (done ++ others) (slice_index ticks k)
   pub small : (k : ℕ) → k < length read → slice_index read k < most
   pub pending : (k : ℕ) → length read ≤ k → k < length ticks → (others : List TimedTurn) → sum_until amount first 0 (done ++ others) (slice_index ticks k) ≡ sum + sum_until amount s time others (slice_index ticks k)
 
--- a turn adds at most so much to a sum
+-- the most that a turn adds to a sum
 abbrev pub step_of : Option ℕ → ℕ
 step_of None = 2 ^ 32
 step_of (Some t) = 2 ^ 97
 
--- all that is read of a sum is below this
+-- a bound above all samples of a sum
 abbrev pub most_of : Option ℕ → ℕ
 most_of None = 2 ^ 65
 most_of (Some t) = 2 ^ 125
@@ -129,7 +129,7 @@ pub record IsGauge (by : By) (marks : Marks) (first : State) (done : List TimedT
   pub starts : IsRead (amount_for by (thread_of gauge.growth)) first done s time gauge.sum (most_of (thread_of gauge.growth)) marks.starts.items gauge.starts.items
   pub ends : IsRead (amount_for by (thread_of gauge.growth)) first done s time gauge.sum (most_of (thread_of gauge.growth)) marks.ends.items gauge.ends.items
 
--- each of these gauges is so
+-- each of these gauges has the property
 abbrev pub EachGauge : (Gauge → Type 0) → List Gauge → Type 0
 EachGauge P gauges = (place : ℕ) (d : Gauge) → place < length gauges → P (slice_index_or gauges place d)
 
@@ -149,7 +149,7 @@ pub record HaveAllPassed (marks : Marks) (value since time : ℕ) (old new : Lis
   pub count : length new ≡ length old
   pub each : (place : ℕ) (d : Gauge) → place < length old → HasPassed marks value since time (slice_index_or old place d) (slice_index_or new place d)
 
--- a gauge is as before, but for its thread's or currency's value, which is that of this state
+-- a gauge is unchanged, except for the value of its thread or currency, which is the one in this state
 pub record IsRenewed (by : By) (s : State) (old new : Gauge) : Type 0 where
   pub thread : thread_of new.growth ≡ thread_of old.growth
   pub now : IsNow by s new.growth
@@ -162,7 +162,7 @@ pub record AreRenewed (by : By) (s : State) (old new : List Gauge) : Type 0 wher
   pub count : length new ≡ length old
   pub each : (place : ℕ) (d : Gauge) → place < length old → IsRenewed by s (slice_index_or old place d) (slice_index_or new place d)
 
--- a meter lets time pass up to this
+-- a meter advances the time to this
 pub record HasPassedAll (now : ℕ) (old new : Meter) : Type 0 where
   pub by : new.by ≡ old.by
   pub marks : new.marks ≡ old.marks
@@ -171,7 +171,7 @@ pub record HasPassedAll (now : ℕ) (old new : Meter) : Type 0 where
   pub live : HasPassed old.marks old.whole_value old.time now old.live new.live
   pub threads : HaveAllPassed old.marks old.whole_value old.time now old.threads.items new.threads.items
 
--- a meter takes over the values in this state
+-- a meter updates its values from this state
 pub record HasRenewed (s : State) (old new : Meter) : Type 0 where
   pub by : new.by ≡ old.by
   pub marks : new.marks ≡ old.marks
@@ -181,7 +181,7 @@ pub record HasRenewed (s : State) (old new : Meter) : Type 0 where
   pub live : new.live ≡ old.live
   pub threads : AreRenewed old.by s old.threads.items new.threads.items
 
--- a gauge of this growth before the first turn: nothing was read
+-- a gauge of this growth before the first turn, without samples
 pub record IsNew (growth : Growth) (gauge : Gauge) : Type 0 where
   pub growth_is : gauge.growth ≡ growth
   pub sum : gauge.sum ≡ 0
@@ -210,7 +210,7 @@ pub record IsNewMeter (curves : Curves) (shown : List Standing) (meter : Meter) 
 
 -- ---- a play
 
--- a made turn as a timed one; it is at 0 if it has no time
+-- a made turn as a timed one, at 0 if it has no time
 abbrev pub timed_turn : MadeTurn → TimedTurn
 timed_turn made = record { time = unwrap_or made.time 0; actor = made.actor; turn = made.turn }
 
@@ -222,8 +222,8 @@ state_of program turns = (world_after_turns (opening_world program) turns).state
 abbrev pub IsGaugeOf : By → Program → List MadeTurn → Marks → Gauge → Type 0
 IsGaugeOf by program turns marks gauge = IsGauge by marks (opening program.limits) (map timed_turn turns) (length turns) (state_of program turns) (time_after 0 (map timed_turn turns)) gauge
 
--- A meter that began so, after these turns of the program; nothing is read of more turns than a program has. No thread
--- or currency is worth more than the whole, since the state is sound.
+-- A meter that started as `first`, after these turns of the program. It samples no more turns than a program has. No
+-- thread or currency is worth more than the total value, since the state is sound.
 pub record IsMeter (program : Program) (turns : List MadeTurn) (first now : Meter) : Type 0 where
   pub bounds : IsWithinBounds program.limits
   pub sound : IsSound (state_of program turns)
@@ -241,37 +241,37 @@ pub record IsMeter (program : Program) (turns : List MadeTurn) (first now : Mete
   pub live : length turns < 2 ^ 24 → IsGaugeOf first.by program turns first.marks now.live
   pub each : length turns < 2 ^ 24 → EachGauge (IsGaugeOf first.by program turns first.marks) now.threads.items
 
--- a meter that awaits a turn, made in this world
+-- a meter before a turn, made in this world
 pub record IsAwaiting (program : Program) (turns : List MadeTurn) (world : World) (first now : Meter) : Type 0 where
   pub is : IsMeter program turns first now
   pub world_is : world ≡ world_after_turns (opening_world program) turns
 
--- ---- what was read
+-- ---- the samples
 
--- what a gauge grew by in a sample's window
+-- the growth of a gauge in a sample's window
 abbrev pub grown_in : Gauge → ℕ → ℕ
 grown_in gauge sample = slice_index gauge.ends.items sample - slice_index gauge.starts.items sample
 
--- a gauge has been read at all samples: it grew as this sum does, and by less than this
+-- a gauge has samples at all ticks: it grew as this sum does, and by less than this
 pub record IsSampled (curves : Curves) (sum : ℕ → ℕ) (most : ℕ) (gauge : Gauge) : Type 0 where
   pub starts : length gauge.starts.items ≡ sample_count (last_end curves.stretches) + 1
   pub ends : length gauge.ends.items ≡ sample_count (last_end curves.stretches) + 1
   pub exact : (sample : ℕ) → sample ≤ sample_count (last_end curves.stretches) → grown_in gauge sample ≡ grown_at curves sum (sample_tick (last_end curves.stretches) sample)
   pub small : (sample : ℕ) → sample ≤ sample_count (last_end curves.stretches) → grown_in gauge sample < most
 
--- what was read at all samples is what is due to these lines
+-- the dues of these lines are those sampled
 pub record AreDues (curves : Curves) (dues : Dues) (shown : List Standing) (read : LineDues) : Type 0 where
   pub live : IsSampled curves dues.live (2 ^ 65) read.live
   pub count : length read.threads.items ≡ length shown
   pub each : (place : ℕ) (d : Gauge) (e : Standing) → place < length shown → IsSampled curves (dues.parts (slice_index_or shown place e).thread) (2 ^ 125) (slice_index_or read.threads.items place d)
 
--- there is what is due if and only if the program is timed
+-- there are dues if and only if the program is timed
 abbrev pub HaveDues : Curves → Option Dues → List Standing → Option LineDues → Type 0
 HaveDues curves None shown None = ⊤
 HaveDues curves (Some dues) shown (Some read) = AreDues curves dues shown read
 HaveDues curves other shown read = ⊥
 
--- the line at this place is that of this thread
+-- the line at this index is this thread's
 pub record IsLineOf (shown : List Standing) (place thread : ℕ) : Type 0 where
   pub there : place < length shown
   pub same : (e : Standing) → thread ≡ (slice_index_or shown place e).thread

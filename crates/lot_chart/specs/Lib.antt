@@ -12,11 +12,11 @@ pub mod Lines
 pub mod Axes
 -- The marks at the times of commands.
 pub mod Marks
--- Text within XML.
+-- Text in XML.
 pub mod Escapes
--- What threads are due over time.
+-- The dues of threads over time.
 pub mod Dues
--- Sums that grow from turn to turn, and what was read of them at ticks.
+-- Sums that grow from turn to turn, sampled at ticks.
 pub mod Gauges
 -- Curves as a picture.
 pub mod Charts

@@ -60,9 +60,9 @@ abbrev pub end_in : Seen → Option ℕ → ℕ → ℕ
 end_in seen (Some time) actor = time
 end_in seen None actor = total_of ticks_in (turns_of actor (turns_made seen.setting.program seen.history))
 
--- ---- while they are gathered
+-- ---- while the turns are gathered
 
--- these were noted of these turns, and the search has room for the program's graphs
+-- the stretches and times noted are those of these turns, and the search has room for the program's graphs
 pub record HasNoted (by : By) (program : Program) (turns : List MadeTurn) (stretches : List Stretch) (commands : List ℕ) (above : FoundNodes) : Type 0 where
   pub room : HasLayoutFor program above
   pub stretches_are : stretches ≡ stretches_in by [] turns
@@ -76,20 +76,20 @@ has_run (reply.Expired t ticks) = true
 has_run (reply.Trapped t ticks came ends) = true
 has_run other = false
 
--- if the reply says that a thread ran, that ran on this processor
+-- if the reply says that a thread ran, the thread ran on this processor
 abbrev pub RanOn : State → ℕ → Reply → Type 0
 RanOn s p (reply.Expired t ticks) = (0 < p) × (thread_on s.records p ≡ Some t)
 RanOn s p (reply.Trapped t ticks came ends) = (0 < p) × (thread_on s.records p ≡ Some t)
 RanOn s p other = ⊤
 
--- so many numbers of currencies were given before this actor's turn, and the search has found those that the thread
--- stands below that runs on its processor
+-- Before this actor's turn this many currency numbers were given, and the search has found those of the currencies
+-- above the thread on the actor's processor.
 pub record HasLooked (s : State) (actor : ℕ) (above : FoundNodes) (count : ℕ) : Type 0 where
   pub given : count ≡ length s.currencies
   pub within : count ≤ above.layout.currencies + 1
   pub found : (t : ℕ) → 0 < actor → thread_on s.records actor ≡ Some t → HasThoseAbove s t above
 
--- by currency the search was made; by thread nothing is searched for
+-- by currency the search was made; by thread there is none
 abbrev pub HasSearched : By → State → ℕ → FoundNodes → ℕ → Type 0
 HasSearched Thread s actor above count = ⊤
 HasSearched Currency s actor above count = HasLooked s actor above count

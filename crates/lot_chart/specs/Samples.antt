@@ -34,11 +34,11 @@ seven_tick_curves = record {
   commands = [];
 }
 
--- the first thread is due all ticks
+-- dues that give the first thread all ticks
 abbrev pub all_to_the_first : Dues
 all_to_the_first = record { live = λ tick. tick; parts = λ t tick. if t == 1 then tick * tick_parts else 0 }
 
--- the threads of `seven_tick_curves`, by what they have run
+-- the threads of `seven_tick_curves`, by the ticks that they have run
 abbrev pub seven_tick_standings : List Standing
 seven_tick_standings = record { thread = 1; ticks = 4 } ∷ record { thread = 2; ticks = 3 } ∷ []
 
@@ -105,7 +105,7 @@ three_tick_picture = text (
     ∷ codes "<text x='788' y='260.0' dy='4'>b 33.3%</text>"
     ∷ codes "</svg>" ∷ [])
 
--- the same with a window of two ticks: at tick 3 each thread has run one of the last two
+-- the picture with a window of two ticks: at tick 3 each thread has run one of the last two
 abbrev pub three_tick_window_picture : List ℕ
 three_tick_window_picture = text (
     codes "<svg xmlns='http://www.w3.org/2000/svg' width='860' height='540' viewBox='0 0 860 540' role='img' aria-labelledby='title' font-family='sans-serif' font-size='12' fill='#222222'>"
@@ -145,13 +145,13 @@ three_tick_window_picture = text (
     ∷ codes "<text x='788' y='276.0' dy='4'>b 50.0%</text>"
     ∷ codes "</svg>" ∷ [])
 
--- a timed program: thread a has three quarters of the value up to tick 2, and half of it from then on
+-- a timed program: thread a has three quarters of the value up to tick 2, and half of it afterwards
 abbrev pub two_rates : List ℕ
 two_rates = text (
     codes "lottery 3" ∷ codes "quantum 1" ∷ codes "for 4" ∷ codes "script spin" ∷ codes "compute 10" ∷ codes "endscript" ∷ codes "fundx 3 base a spin" ∷ codes "fundx 1 base b spin"
     ∷ codes "at 2" ∷ codes "settkt 1 1" ∷ [])
 
--- a timed program: thread a stands below currency w, and so below u, up to tick 2, and below v from then on
+-- a timed program: thread a stands below currency w, and so below u, up to tick 2, and below v afterwards
 abbrev pub moved_below : List ℕ
 moved_below = text (
     codes "lottery 3" ∷ codes "quantum 1" ∷ codes "for 4" ∷ codes "script spin" ∷ codes "compute 10" ∷ codes "endscript"

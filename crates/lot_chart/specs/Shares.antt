@@ -8,11 +8,11 @@ use Rattle.lot_curves.specs.Curves.{Curves, total_at}
 abbrev pub tenths : ℕ → List ℕ
 tenths n = decimal (n / 10) ++ (codes "." ++ decimal (n % 10))
 
--- a part of the whole in tenths of a percent, rounded; 0 if there is nothing
+-- a part of the whole in tenths of a percent, rounded; 0 if the whole is 0
 abbrev pub share_of : ℕ → ℕ → ℕ
 share_of whole part = min ((1000 * part + whole / 2) / max 1 whole) 1000
 
--- with a window, the ticks or draws of all threads in the one that ends at this tick; figures are shares of them
+-- with a window, the ticks or draws of all threads in the window that ends at this tick; figures are shares of them
 abbrev pub whole_at : Measure → Curves → ℕ → Option ℕ
 whole_at measure curves tick = by curves.window
   where

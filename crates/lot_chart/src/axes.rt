@@ -9,7 +9,7 @@ static STEPS: [u32; 28] = [
     500000000, 1000000000,
 ];
 
-/// The distance between the marks of an axis that ends at this value.
+/// The distance between the marks of an axis that ends at this value, which gives at most five marks after 0.
 pub(crate) fn axis_step(most: u64) -> u64
     ensures exact { result ≡ definitions.axis_step most }
     ensures positive { 0 < result }
@@ -32,7 +32,7 @@ pub(crate) fn mark_count(most: u64) -> u64
     (most / axis_step(most).max(1)).min(5)
 }
 
-/// The distance from the origin to the first multiple of the step, from the origin itself on.
+/// The distance from the origin to the first multiple of the step at or after it.
 pub(crate) fn lead(step: u64, origin: u64) -> u64
     requires { 0 < step }
     ensures exact { result ≡ definitions.lead step origin }
@@ -41,7 +41,7 @@ pub(crate) fn lead(step: u64, origin: u64) -> u64
     (step - origin % step) % step
 }
 
-/// The number of marks after the first on an axis of time from the origin to this last tick, which counts from it.
+/// The number of marks after the first on a time axis from the origin to this last tick, which counts from the origin.
 pub(crate) fn time_mark_count(origin: u64, last: u64) -> u64
     ensures exact { result ≡ definitions.time_mark_count origin last }
     ensures few { result ≤ 5 }

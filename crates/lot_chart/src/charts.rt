@@ -31,7 +31,7 @@ use lot_machine::{Name, index_of};
 use lot_program::Program;
 use std::alloc::{AllocError, Global};
 
-/// The width of the widest picture, in whole units.
+/// The largest width of a picture, in whole units.
 const WIDEST: usize = 1040;
 
 /// The left edge of the plot.
@@ -40,12 +40,12 @@ const LEFT: u32 = 1000;
 /// The width of the plot.
 const WIDTH: u32 = 6700;
 
-/// The part of the picture from its size to the title.
+/// The picture from its size to the title.
 const FONT: &str =
     " 540' role='img' aria-labelledby='title' font-family='sans-serif' font-size='12' \
     fill='#222222'>\n<title id='title'>";
 
-/// The part of the picture after the axes' marks, up to the label of heights.
+/// The picture from the axes' marks to the label of the vertical axis.
 const FRAME: &str = "<path d='M100 60V460H770' fill='none' stroke='#222222'/>\n\
     <text x='435' y='512' text-anchor='middle'>time, in ticks</text>\n\
     <text transform='translate(14 260) rotate(-90)' text-anchor='middle'>";
@@ -53,7 +53,8 @@ const FRAME: &str = "<path d='M100 60V460H770' fill='none' stroke='#222222'/>\n\
 /// The picture of the curves, an SVG with this title: a line for each thread, or for the eleven that have run longest
 /// and one for the others together. At each line's end are the thread's name and its share of all ticks. With a window,
 /// lines show shares of the last ticks, and the eleven are those that have run longest in the last window. By currency
-/// there is a line for each of the twelve currencies whose threads have run longest, and none for the others.
+/// there is a line for each of the twelve currencies whose threads have run longest, and none for the others. Fails
+/// only if out of memory.
 pub fn chart_of(alloc: Global, curves: &Curves, title: &str) -> Result<Vec<u8>, AllocError>
     ensures { IfOk result (λ text. text.items ≡ definitions.chart title.now None curves.now) }
 {
@@ -61,7 +62,8 @@ pub fn chart_of(alloc: Global, curves: &Curves, title: &str) -> Result<Vec<u8>, 
     draw(alloc, curves, title, &selection, &None)
 }
 
-/// The same for these curves of the program; if it is timed, with a thin line behind each for what it is due.
+/// The picture of these curves of the program, like `chart_of`. In a timed program a thin line behind each line shows
+/// its due. Fails only if out of memory.
 pub fn program_chart(
     alloc: Global,
     program: &Program,
@@ -76,7 +78,7 @@ pub fn program_chart(
     draw(alloc, curves, title, &selection, &dues)
 }
 
-/// The picture with these lines, and with what is due to them.
+/// The picture with these lines and their dues.
 fn draw(
     alloc: Global,
     curves: &Curves,
@@ -111,7 +113,7 @@ fn draw(
     Ok(text.into_bytes())
 }
 
-/// Adds the picture with these lines, and with what is due to them, given the most ticks.
+/// Adds the picture with these lines and their dues, given the most ticks.
 fn push_picture(
     alloc: Global,
     text: &mut Text,
@@ -156,7 +158,7 @@ fn longest_name(names: &[Name], lines: &[PlotLine]) -> usize
     longest
 }
 
-/// The width of the picture: room for a name of this many bytes and its share, and for a title, but at most 1040.
+/// The width of the picture: it has room for a name of this many bytes with its share, and for a title, up to 1040.
 fn width_for(name: usize, title: usize) -> u64
     requires { name ≤ 16 }
     ensures { result ≡ definitions.width_for name title }
@@ -197,7 +199,7 @@ fn push_axes(alloc: Global, text: &mut Text, curves: &Curves, most: u64) -> Resu
     push_frame(text, curves.by(), curves.window())
 }
 
-/// The number at the top of the axis of heights: the most ticks of a line, or with a window 100 percent.
+/// The number at the top of the vertical axis: the most ticks of a line, or 100 percent with a window.
 fn highest(curves: &Curves, most: u64) -> u64
     ensures { result ≡ definitions.highest curves.now.window most }
 {
@@ -207,7 +209,7 @@ fn highest(curves: &Curves, most: u64) -> u64
     }
 }
 
-/// Adds the lines of both axes, and their labels.
+/// Adds both axes without marks, and their labels.
 fn push_frame(text: &mut Text, by: By, window: Option<u32>) -> Result<(), AllocError>
     ensures { OnOk result (text.new ≡ text.old ++ frame by window) }
 {
@@ -216,7 +218,7 @@ fn push_frame(text: &mut Text, by: By, window: Option<u32>) -> Result<(), AllocE
     text.push("</text>\n")
 }
 
-/// Adds what heights mean.
+/// Adds the label of the vertical axis.
 fn push_heights_label(text: &mut Text, by: By, window: Option<u32>) -> Result<(), AllocError>
     ensures { OnOk result (text.new ≡ text.old ++ heights_label by window) }
 {
@@ -224,7 +226,7 @@ fn push_heights_label(text: &mut Text, by: By, window: Option<u32>) -> Result<()
     push_measure_label(text, window)
 }
 
-/// What lines show.
+/// The subject of the lines.
 fn lines_label(by: By) -> &'static str
     ensures { result.now ≡ definitions.lines_label by }
 {
@@ -234,7 +236,7 @@ fn lines_label(by: By) -> &'static str
     }
 }
 
-/// Adds how it is measured.
+/// Adds the measure of the vertical axis.
 fn push_measure_label(text: &mut Text, window: Option<u32>) -> Result<(), AllocError>
     ensures { OnOk result (text.new ≡ text.old ++ measure_label window) }
 {
@@ -244,14 +246,14 @@ fn push_measure_label(text: &mut Text, window: Option<u32>) -> Result<(), AllocE
     }
 }
 
-/// Adds how it is measured with a window.
+/// Adds the measure of the vertical axis with a window.
 fn push_window_label(text: &mut Text, window: u32) -> Result<(), AllocError>
     ensures { OnOk result (text.new ≡ text.old ++ measure_label (Some window)) }
 {
     text.push_number_within(" in the last ", u64::from(window), " ticks, in percent")
 }
 
-/// Adds the marks of the axis of heights.
+/// Adds the marks of the vertical axis.
 fn push_height_marks(text: &mut Text, most: u64) -> Result<(), AllocError>
     ensures { OnOk result (text.new ≡ text.old ++ flat_map (height_mark most) (marks most)) }
 {
@@ -262,7 +264,7 @@ fn push_height_marks(text: &mut Text, most: u64) -> Result<(), AllocError>
     Ok(())
 }
 
-/// Adds the mark of a number of ticks, or of a percentage, on the axis of heights.
+/// Adds the mark of a number of ticks, or of a percentage, on the vertical axis.
 fn push_height_mark(text: &mut Text, most: u64, ticks: u64) -> Result<(), AllocError>
     ensures { OnOk result (text.new ≡ text.old ++ height_mark most ticks) }
 {
@@ -276,8 +278,8 @@ fn push_height_mark(text: &mut Text, most: u64, ticks: u64) -> Result<(), AllocE
     )
 }
 
-/// Adds the mark of a number on an axis: its line, at this position between the first two texts, and its label, at the
-/// same position between the last two.
+/// Adds the mark of a number on an axis: a line, at this position between the first two texts, and a label, at the same
+/// position between the last two.
 fn push_axis_mark(
     text: &mut Text,
     before: &str,
@@ -294,7 +296,7 @@ fn push_axis_mark(
     text.push_number_within(after, number, "</text>\n")
 }
 
-/// Adds the marks of the axis of time.
+/// Adds the marks of the time axis.
 fn push_time_marks(text: &mut Text, curves: &Curves) -> Result<(), AllocError>
     ensures { OnOk result (text.new ≡ text.old
         ++ flat_map (time_mark curves.now) (time_marks curves.now.origin (last_end curves.now.stretches))) }
@@ -309,7 +311,7 @@ fn push_time_marks(text: &mut Text, curves: &Curves) -> Result<(), AllocError>
     Ok(())
 }
 
-/// Adds the mark of a tick, which counts from the origin, on the axis of time.
+/// Adds the mark of a tick, which counts from the origin, on the time axis.
 fn push_time_mark(text: &mut Text, curves: &Curves, tick: u64) -> Result<(), AllocError>
     requires { tick < 2 ^ 56 }
     ensures { OnOk result (text.new ≡ text.old ++ time_mark curves.now tick) }
@@ -335,7 +337,7 @@ fn push_command_marks(alloc: Global, text: &mut Text, curves: &Curves) -> Result
     Ok(())
 }
 
-/// Adds the mark of a column, if a command stands there.
+/// Adds the mark of a column, if a command has its time there.
 fn push_column_mark(
     text: &mut Text,
     curves: &Curves,
@@ -454,7 +456,7 @@ fn push_points(
     Ok(())
 }
 
-/// Adds one point, given the ticks that the top of the plot stands for.
+/// Adds one point, given the ticks at the top of the plot.
 fn push_point(
     text: &mut Text,
     curves: &Curves,
@@ -482,7 +484,7 @@ pub(crate) fn push_point_at(
     text.push_tenths(height)
 }
 
-/// The ticks that the top of the plot stands for at each sample.
+/// The ticks at the top of the plot, at each sample.
 fn tops_of(alloc: Global, curves: &Curves, most: u64) -> Result<Vec<u64>, AllocError>
     ensures { IfOk result (λ tops. tops.items ≡ definitions.tops curves.now most) }
 {
@@ -493,15 +495,15 @@ fn tops_of(alloc: Global, curves: &Curves, most: u64) -> Result<Vec<u64>, AllocE
     Ok(tops)
 }
 
-/// The ticks that the top of the plot stands for at this tick: with a window all in the one that ends there, and
-/// otherwise the most of a line.
+/// The ticks at the top of the plot, at this tick: with a window all ticks of the window that ends there, otherwise the
+/// most of a line.
 fn top_at(curves: &Curves, most: u64, tick: u64) -> u64
     ensures { result ≡ definitions.top_at curves.now most tick }
 {
     whole_at(curves, Measure::Ticks, tick).unwrap_or(most)
 }
 
-/// The colour of a style.
+/// The colour of a line in this style.
 fn colour(style: u32) -> &'static str
     ensures { result.now ≡ definitions.colour style }
 {
@@ -517,7 +519,7 @@ fn colour(style: u32) -> &'static str
     }
 }
 
-/// The dash pattern that distinguishes later styles from the first ones.
+/// The dash pattern of a line in this style, which tells later lines from the first with the same colour.
 fn strokes(style: u32) -> &'static str
     ensures { result.now ≡ definitions.strokes style }
 {
@@ -527,7 +529,7 @@ fn strokes(style: u32) -> &'static str
     " stroke-dasharray='7 4'"
 }
 
-/// The ticks of all turns, or with a window those in the last.
+/// The ticks of all turns, or of the last window.
 fn total_of(curves: &Curves) -> u64
     ensures { result ≡ definitions.total curves.now }
 {

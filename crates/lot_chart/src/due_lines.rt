@@ -1,4 +1,4 @@
-//! What the lines of a picture are due, as thin lines behind them.
+//! The dues of a picture's lines, as thin lines behind them.
 ghost use Rattle.std.specs.Prelude.{◌≡◌, ◌+◌, ◌*◌, ◌≤◌, ◌^◌, ◌++◌, List, Option, Some, IfOk, OnOk, length, map};
 ghost use Rattle.std.specs.Int.{div_ceil};
 ghost use Rattle.std.specs.List.{flat_map};
@@ -20,11 +20,11 @@ use crate::{PlotLine, Standing};
 use lot_curves::{Curves, Measure};
 use std::alloc::{AllocError, Global};
 
-/// The beginning of the thin lines.
+/// The start of the thin lines.
 const THIN: &str =
     "<g fill='none' stroke-width='1' stroke-opacity='0.5' stroke-linejoin='round'>\n";
 
-/// Adds a thin line for what each line is due, if the program is timed.
+/// Adds a thin line for the due of each line, if the program is timed.
 pub(crate) fn push_due_curves(
     alloc: Global,
     text: &mut Text,
@@ -49,7 +49,7 @@ pub(crate) fn push_due_curves(
     }
 }
 
-/// Adds a thin line for what each line is due.
+/// Adds a thin line for the due of each line.
 fn push_thin_lines(
     alloc: Global,
     text: &mut Text,
@@ -71,7 +71,7 @@ fn push_thin_lines(
     text.push("</g>\n")
 }
 
-/// The most ticks that one of these lines is due at the last sample; 0 if the program isn't timed.
+/// The most ticks due to one of these lines at the last sample; 0 if the program isn't timed.
 pub(crate) fn most_due(curves: &Curves, dues: &Option<LineDues>, shown: &[Standing]) -> u64
     requires { (due : Option DuesRecord) × HaveDues curves.now due shown.now dues.now }
     ensures { (due : Option DuesRecord) → HaveDues curves.now due shown.now dues.now
@@ -83,7 +83,7 @@ pub(crate) fn most_due(curves: &Curves, dues: &Option<LineDues>, shown: &[Standi
     }
 }
 
-/// The most ticks that one of these lines is due at the last sample.
+/// The most ticks due to one of these lines at the last sample.
 fn most_due_of(curves: &Curves, dues: &LineDues, shown: &[Standing]) -> u64
     requires { (due : DuesRecord) × AreDues curves.now due shown.now dues.now }
     ensures { (due : DuesRecord) → AreDues curves.now due shown.now dues.now
@@ -99,7 +99,7 @@ fn most_due_of(curves: &Curves, dues: &LineDues, shown: &[Standing]) -> u64
     most
 }
 
-/// A share, in billionths, of the ticks that were run; rounded up.
+/// The ticks of a share in billionths of the ticks that were run, rounded up.
 fn due_ticks(ran: u64, share: u64) -> u64
     requires { share ≤ 10 ^ 9 }
     ensures { result ≡ div_ceil (ran * share) (10 ^ 9) }
@@ -143,7 +143,7 @@ fn push_lines(
     Ok(())
 }
 
-/// Adds the thin line of the line at this place.
+/// Adds the thin line for the line at this index.
 fn push_due_curve(
     text: &mut Text,
     curves: &Curves,
@@ -192,7 +192,7 @@ fn push_due_points(
     Ok(())
 }
 
-/// The height of a share, in billionths, of the ticks that were run, if the top of the plot stands for so many.
+/// The height of a share in billionths of the ticks that were run, given the ticks at the top of the plot.
 fn due_height(top: u64, ran: u64, share: u64) -> u32
     requires { share ≤ 10 ^ 9 }
     ensures { result ≡ definitions.height_of (top * 10 ^ 9) (ran * share) }

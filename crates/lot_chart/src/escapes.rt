@@ -1,4 +1,4 @@
-//! Text within XML.
+//! Text in XML.
 ghost use Rattle.std.specs.Prelude.{◌≡◌, ◌++◌, OnOk};
 ghost use Rattle.lot_chart.specs.Escapes.{escaped, escaped_byte};
 

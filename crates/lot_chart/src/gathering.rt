@@ -27,16 +27,17 @@ use lot_graph::Above;
 use lot_machine::{CurrencyNumber, Name, Reply, ThreadNumber};
 use lot_playback::{Observer, Playback, Turn};
 use lot_program::Program;
-use lot_system::{Warnings, note_last, play_through};
+use lot_simulation::Warnings;
+use lot_system::{note_last, note_turn, play_through};
 use std::alloc::{AllocError, Global};
 
-/// Records the stretches of each turn, and its warning; and the times of the console's commands.
+/// Records the stretches and the warning of each turn, and the times of the console's commands.
 #[derive(Drop)]
 struct Stretches<'a> {
     by: By,
     /// By currency, the currencies above the thread whose turn is next.
     above: Above,
-    /// By currency, how many numbers of currencies were given before the turn.
+    /// By currency, the count of currency numbers given before the turn.
     count: u32,
     stretches: Vec<Stretch>,
     commands: Vec<u32>,
@@ -79,7 +80,7 @@ impl<'a> Observer for Stretches<'a> {
             return Ok(());
         }
         let end = end_of(system, turn);
-        self.warnings.note(system, turn);
+        note_turn(self.warnings, system, turn);
         push_turn(
             &mut self.stretches,
             self.by,
@@ -128,7 +129,7 @@ fn push_turn(
     }
 }
 
-/// Adds a turn's stretch with number 0, and, if a thread ran, once more for each currency that was found.
+/// Adds a turn's stretch with number 0, and, if a thread ran, one with the number of each currency found above it.
 fn push_columns(
     stretches: &mut Vec<Stretch>,
     stretch: Stretch,
@@ -159,7 +160,7 @@ fn has_run(reply: Reply) -> bool
     matches!(reply, Reply::Expired { .. } | Reply::Trapped { .. })
 }
 
-/// Adds a stretch. So many that a `u32` can't number them count as out of memory.
+/// Adds a stretch. More than a `u32` can number count as out of memory.
 fn push_stretch(stretches: &mut Vec<Stretch>, stretch: Stretch) -> Result<(), AllocError>
     ensures pushed { OnOk result (stretches.new.items ≡ stretches.old.items ++ stretch ∷ []) }
     ensures few { OnOk result (length stretches.new.items < 2 ^ 32) }
@@ -172,7 +173,7 @@ fn push_stretch(stretches: &mut Vec<Stretch>, stretch: Stretch) -> Result<(), Al
     Ok(())
 }
 
-/// Adds the stretch once for each of the first so many currencies that was found, base left out.
+/// Adds the stretch once for each currency found among the first `count`, base left out.
 fn push_found(
     stretches: &mut Vec<Stretch>,
     stretch: Stretch,
@@ -195,7 +196,7 @@ fn push_found(
     Ok(())
 }
 
-/// Adds the turn's time, if it has one and is the console's.
+/// Adds the turn's time, if the turn is the console's and has one.
 fn push_command(commands: &mut Vec<u32>, turn: &Turn) -> Result<(), AllocError>
     ensures { OnOk result (commands.new.items ≡ commands.old.items ++ command_time turn.now.time turn.now.actor) }
 {
@@ -207,7 +208,7 @@ fn push_command(commands: &mut Vec<u32>, turn: &Turn) -> Result<(), AllocError>
     Ok(())
 }
 
-/// The time at which the system's last turn ended: its own time, or, if it has none, its actor's own time.
+/// The time at which the system's last turn ended: the turn's time, or its actor's own time in a schedule.
 fn end_of(system: &System, turn: &Turn) -> u64
     requires { turn.now.time ≡ None → turn.now.actor ≤ system.now.setting.program.limits.processors }
     ensures end { result ≡ end_in system.now turn.now.time turn.now.actor }
@@ -221,7 +222,7 @@ fn end_of(system: &System, turn: &Turn) -> u64
 
 /// Makes the turns of the program in a system of its own, timed ones if it has a duration and those of its schedule
 /// otherwise, and gathers their stretches, by thread or by currency. Without a duration they are by thread. It stores
-/// the run's warnings in `warnings`, also whether a refusal ended it.
+/// the run's warnings in `warnings`, and whether a refusal ended the run. Fails only if out of memory.
 pub fn gather(
     alloc: Global,
     by: By,
@@ -237,7 +238,7 @@ pub fn gather(
     }
 }
 
-/// The same, by currency only with a duration.
+/// Like `gather`, for a timed program if by currency.
 fn gather_by(
     alloc: Global,
     by: By,
@@ -272,7 +273,7 @@ fn names_at_end(
     names_of(alloc, by, system.settle())
 }
 
-/// Makes the program's turns, and records the stretches of each, and its warning; and the times of the commands.
+/// Makes the program's turns, and records the stretches and the warning of each, and the times of the commands.
 fn note_turns(
     alloc: Global,
     by: By,
@@ -301,7 +302,7 @@ fn note_turns(
         warnings,
     };
     play_through(program, playback, &mut noted)?;
-    // The loan of the warnings is named, so that it ends with the play's.
+    // A name for the loan of the warnings, so that it ends with the play's.
     let Stretches {
         stretches,
         commands,
@@ -311,7 +312,7 @@ fn note_turns(
     Ok((stretches, commands))
 }
 
-/// The columns' names, in ascending order of number: each is that of the last thread or currency with the number.
+/// The columns' names, in ascending order of number: the name of the last thread or currency with the number.
 fn names_of(alloc: Global, by: By, settled: Settled<'_>) -> Result<Vec<Name>, AllocError>
     ensures few { IfOk result (λ names. vec_len names < 2 ^ 32) }
     ensures names { IfOk result (λ names. names.items ≡ names_by by settled.entry.kernel.now.state) }
@@ -324,7 +325,7 @@ fn names_of(alloc: Global, by: By, settled: Settled<'_>) -> Result<Vec<Name>, Al
     Ok(names)
 }
 
-/// How many numbers of threads have been given, or of currencies other than base.
+/// The count of numbers given to threads, or to currencies other than base.
 fn column_count(by: By, settled: Settled<'_>) -> u32
     ensures { result ≡ length (numbers_by by settled.entry.kernel.now.state) }
 {
@@ -334,7 +335,8 @@ fn column_count(by: By, settled: Settled<'_>) -> u32
     }
 }
 
-/// The name of the last thread or currency with this number, or the number itself if that was removed or has no name.
+/// The name of the last thread or currency with this number, or the number itself if that one was removed or has no
+/// name.
 fn name_by(by: By, settled: Settled<'_>, number: u32) -> Name
     requires { IsBetween 1 (length (numbers_by by settled.kernel.now.state)) number }
     ensures { result ≡ curves.name_by by settled.entry.kernel.now.state number }

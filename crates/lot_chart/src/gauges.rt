@@ -1,4 +1,4 @@
-//! Sums that grow from turn to turn, and are read at ticks.
+//! Sums that grow from turn to turn, sampled at ticks.
 ghost use Rattle.std.specs.Prelude.{◌≡◌, ◌<◌, ◌≤◌, ◌^◌, ◌/◌, ◌+◌, ◌*◌, ◌-◌, [], IfOk, OnOk, Some, length};
 ghost use Rattle.lot_simulation.specs.TimedReport.{tick_parts};
 ghost use Rattle.lot_simulation.specs.Below.{worth_of};
@@ -18,17 +18,17 @@ use lot_playback::live_value;
 use lot_simulation::TICK_PARTS;
 use std::alloc::{AllocError, Global};
 
-/// What makes a sum grow.
+/// The growth of a sum.
 #[derive(Clone, Copy)]
 pub enum Growth {
-    /// The time in which what is shared out is worth anything.
+    /// The ticks during which the total value is above 0.
     Live,
-    /// What the threads or currencies with this number are due, as long as their value is this.
+    /// The parts due to the thread or currency with this number, while its value is this.
     Due { thread: u32, value: u64 },
 }
 
 impl Growth {
-    /// By how much the sum grows in so many ticks, if what is shared out is worth this much.
+    /// The growth over this many ticks, given the total value.
     fn amount(self, whole_value: u128, ticks: u64) -> u128
         requires small { whole_value < 2 ^ 96 }
         requires within { IsWithin whole_value self }
@@ -60,7 +60,7 @@ impl Growth {
     }
 }
 
-/// The value that a thread or currency has of what is shared out.
+/// The value of a thread or currency, in base units.
 fn own_value(by: By, number: u32, settled: Settled<'_>) -> u64
     requires sound { IsSound settled.kernel.now.state }
     requires column { IsColumn by (Some number) }
@@ -84,7 +84,7 @@ fn currency_value(currency: CurrencyNumber, settled: Settled<'_>) -> u64
     settled.currency_value(currency)
 }
 
-/// The value that is shared out: that of all live threads, or of all active tickets of base.
+/// The total value: of all live threads, or of all active tickets of base.
 pub(crate) fn whole_value(by: By, system: &mut System) -> u128
     ensures same { system.new ≡ system.old }
     ensures value { result ≡ dues.whole_value by (world_of system.old).state }
@@ -96,7 +96,7 @@ pub(crate) fn whole_value(by: By, system: &mut System) -> u128
     }
 }
 
-/// The parts that each base unit of this value, which isn't 0, is due in so many ticks.
+/// Parts due per base unit of this total value, above 0, after `ticks` ticks.
 fn rate_of(whole_value: u128, ticks: u64) -> u128
     requires { (0 < whole_value) × (whole_value < 2 ^ 96) }
     ensures { result ≡ (ticks * tick_parts + (whole_value - 1)) / whole_value }
@@ -104,22 +104,22 @@ fn rate_of(whole_value: u128, ticks: u64) -> u128
     (u128::from(ticks) * TICK_PARTS + (whole_value - 1)) / whole_value
 }
 
-/// A sum from the last turn on.
+/// A sum since the last turn.
 #[derive(Clone, Copy)]
 pub struct Flow {
-    /// What makes it grow.
+    /// The growth of the sum.
     pub growth: Growth,
-    /// The value that is shared out.
+    /// The total value.
     pub whole_value: u128,
     /// The time of the last turn.
     pub since: u32,
-    /// The sum then.
+    /// The sum at the last turn.
     pub sum: u128,
 }
 
 impl Flow {
-    /// The sum at this tick, if no turn comes before it. It ends at the largest number, since it isn't known here how
-    /// many turns there are; no program has enough for it.
+    /// The sum at this tick, if no turn comes before it. It saturates at the largest number, since this function
+    /// doesn't know how many turns there are; no program has enough turns to reach it.
     fn at(self, tick: u64) -> u128
         requires small { self.whole_value < 2 ^ 96 }
         requires within { IsWithin self.whole_value self.growth }
@@ -131,8 +131,7 @@ impl Flow {
     }
 }
 
-/// The ticks at which sums are read, both in ascending order: where the windows of all samples begin, and where they
-/// end.
+/// The ticks at which sums are sampled, both in ascending order: the starts of all samples' windows, and their ends.
 pub struct Marks {
     pub starts: Vec<u64>,
     pub ends: Vec<u64>,
@@ -158,7 +157,7 @@ impl Marks {
     }
 }
 
-/// The ticks at which the samples' windows begin.
+/// The ticks at which the samples' windows start.
 fn starts_of(alloc: Global, curves: &Curves) -> Result<Vec<u64>, AllocError>
     ensures { IfOk result (λ ticks. ticks.items ≡ start_ticks curves.now) }
 {
@@ -183,14 +182,14 @@ fn ends_of(alloc: Global, curves: &Curves) -> Result<Vec<u64>, AllocError>
     Ok(ends)
 }
 
-/// A sum, and what was read of it at the ticks that have passed.
+/// A sum, with its samples at the ticks that have passed.
 pub struct Gauge {
     pub growth: Growth,
     /// The sum at the last turn.
     pub sum: u128,
-    /// The sums where the samples' windows begin.
+    /// The sums at the starts of the samples' windows.
     pub starts: Vec<u128>,
-    /// The sums where they end.
+    /// The sums at the ends of the samples' windows.
     pub ends: Vec<u128>,
 }
 
@@ -222,7 +221,7 @@ impl Gauge {
         }
     }
 
-    /// Lets time pass up to this, since the last turn at the earlier time.
+    /// Advances the time from that of the last turn, and samples the sum at the ticks passed.
     pub(crate) fn pass(
         &mut self,
         marks: &Marks,
@@ -246,7 +245,7 @@ impl Gauge {
         Ok(())
     }
 
-    /// Takes over its thread's or currency's value in this kernel.
+    /// Updates the value of its thread or currency from this kernel.
     fn renew(&mut self, by: By, settled: Settled<'_>)
         requires sound { IsSound settled.kernel.now.state }
         requires column { IsColumn by (thread_of self.old.growth) }
@@ -255,7 +254,7 @@ impl Gauge {
         self.growth = self.growth.renewed(by, settled);
     }
 
-    /// By how much the sum grew in the window of this sample.
+    /// The growth of the sum in the window of this sample.
     pub(crate) fn grown_in(&self, sample: usize) -> u128
         requires starts { sample < length self.now.starts.items }
         requires ends { sample < length self.now.ends.items }
@@ -265,7 +264,7 @@ impl Gauge {
     }
 }
 
-/// Reads the sum at the further ticks up to this time.
+/// Samples the sum at the next ticks up to this time.
 fn read_until(read: &mut Vec<u128>, ticks: &[u64], flow: Flow, time: u64) -> Result<(), AllocError>
     requires small { flow.whole_value < 2 ^ 96 }
     requires within { IsWithin flow.whole_value flow.growth }
@@ -280,7 +279,7 @@ fn read_until(read: &mut Vec<u128>, ticks: &[u64], flow: Flow, time: u64) -> Res
     Ok(())
 }
 
-/// Lets time pass up to this for each gauge.
+/// Advances the time of each gauge.
 pub(crate) fn pass_all(
     gauges: &mut [Gauge],
     marks: &Marks,
@@ -299,7 +298,7 @@ pub(crate) fn pass_all(
     Ok(())
 }
 
-/// Takes over the values of all threads or currencies with gauges in this kernel.
+/// Updates the values of all threads or currencies with gauges from this kernel.
 pub(crate) fn renew_all(gauges: &mut [Gauge], by: By, settled: Settled<'_>)
     requires sound { IsSound settled.kernel.now.state }
     requires columns { EachGauge (λ gauge. IsColumn by (thread_of gauge.growth)) gauges.old }

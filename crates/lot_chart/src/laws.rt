@@ -1,4 +1,4 @@
-//! Bounds and order of pictures and tables, the curves of turns, and their ends: laws of the definitions, without
+//! Bounds and order of pictures and tables, and the curves of turns with their ends: laws of the definitions, without
 //! executable code.
 ghost use Rattle.std.specs.Prelude.{◌≡◌, ◌==◌, ◌≤◌, ◌<◌, ◌+◌, ◌-◌, ◌*◌, ◌^◌, ℕ, [], ◌∷◌, false};
 ghost use Rattle.std.specs.Prelude.{All, AllPairs, Contains, IsSome, List, true, filter, length, map};
@@ -30,7 +30,7 @@ ghost use Rattle.lot_playback.specs.Turns.{program_turns};
 ghost use Rattle.lot_chart.specs.Noted.{curves_after};
 
 /// The ranking is in order: each thread has run longer than those after it, or equally long with a lower number. It
-/// holds exactly the threads of the row, each once, with its own ticks.
+/// holds exactly the threads of the row, each once, with its ticks.
 pub fn rankings_are_in_order()
     ensures order { (row : List ℕ) → AllPairs IsBefore (ranked row) }
     ensures once { (row : List ℕ) (t : ℕ) → IsBetween 1 (length row) t
@@ -48,8 +48,8 @@ pub fn names_do_not_overlap()
         → All (λ line. line.place ≤ 4600) (lines_of most shown) }
 {}
 
-/// Each mark is at the time of a command that stands in its column, after the left edge and not after the right one.
-/// Each command in the picture stands in a column with a mark.
+/// Each mark is at the time of a command in its column, after the left edge and not after the right one. Each command
+/// in the picture is in a column with a mark.
 pub fn marks_are_of_commands()
     ensures commands { (curves : curves.Curves) (column time : ℕ)
         → slice_get (marked curves) column ≡ Some (Some time)
@@ -60,9 +60,9 @@ pub fn marks_are_of_commands()
 {}
 
 /// A picture of threads whose names have at most 16 bytes, as all names do, has at most 107000 bytes plus ten for each
-/// byte of its title, however many commands there are, and at most 34000 plus these ten if there are none. With what is
-/// due it has at most 137000 plus these ten. Any `Curves` meets the other premises too: it begins before 2 ^ 56, and
-/// its window and the times of its commands are `u32`.
+/// byte of its title, however many commands there are, and at most 34000 plus these ten if there are none. With dues it
+/// has at most 137000 plus these ten. Any `Curves` meets the other premises too: it begins before 2 ^ 56, and its
+/// window and the times of its commands are `u32`.
 pub fn pictures_are_short()
     ensures marked { (title : List ℕ) (curves : curves.Curves) → All (λ time. time < 2 ^ 32) curves.commands
         → All (λ name. length name ≤ 16) curves.names → curves.origin < 2 ^ 56
@@ -87,7 +87,7 @@ pub fn tables_are_short()
         → length (table measure curves) ≤ 4226 + 4238 * length curves.names }
 {}
 
-/// A program's curves are those of its turns, with a schedule and for a timed program.
+/// A program's curves are those of its turns, for a schedule and for a timed program.
 pub fn curves_are_those_of_the_turns()
     ensures thread { (program : Program) → curves_of program ≡ curves_after Thread program (program_turns program) }
     ensures timed { (by : What) (program : Program) → IsSome program.duration
@@ -95,7 +95,7 @@ pub fn curves_are_those_of_the_turns()
 {}
 
 /// A thread's curve ends at its ticks in the report of a legal history, in a system with room for less than 2 ^ 32
-/// turns. If numbers are given again it may end higher, since it is that of each thread with the number.
+/// turns. With `reuse` it may end higher, since it is the curve of all threads that had the number.
 pub fn curves_end_at_the_report()
     ensures ends { (program : Program) (room : ℕ) (history : List ℕ) (t : ℕ) (row : ThreadRow)
         → IsWithinBounds program.limits → IsLegal program room history → room < 2 ^ 32 → program.limits.reuse ≡ false
@@ -108,7 +108,7 @@ pub fn curves_end_at_the_report()
         ≤ had_at Ticks (last_end (stretches_made program history)) (stretches_of t (stretches_made program history)) }
 {}
 
-/// For a timed program, a thread's curve ends at its ticks in the report, or higher if numbers are given again.
+/// For a timed program, a thread's curve ends at its ticks in the report, or higher with `reuse`.
 pub fn timed_curves_end_at_the_report()
     ensures ends { (program : Program) (t : ℕ) (row : ThreadRow) → IsWithinBounds program.limits
         → program.limits.reuse ≡ false → thread_row (last_moment program).world.state t ≡ Some row
@@ -118,9 +118,8 @@ pub fn timed_curves_end_at_the_report()
         → row.ticks ≤ had_at Ticks (last_end (timed_stretches program)) (stretches_of t (timed_stretches program)) }
 {}
 
-/// For a timed program whose commands come in the order of time: at the end of its picture the time in which live
-/// threads were worth anything is the report's, and a thread has been due what the report says, or more if others had
-/// its number before.
+/// For a timed program whose commands come in the order of time: at the end of its picture the time during which live
+/// threads had value is the report's, and a thread's due is the report's, or more if others had its number before.
 pub fn dues_end_at_the_report()
     ensures live { (program : Program) → IsWithinBounds program.limits → IsNonDecreasing program.times
         → (dues_in Thread (opening program.limits) (timed_turns program)).live (last_end (timed_stretches program))

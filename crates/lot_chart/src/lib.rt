@@ -1,7 +1,7 @@
 //! Shows an input: `shares` writes a table of each thread's ticks or draws over time, and `chart` a picture of the
-//! ticks, in which a timed program also has what each line is due; with a window, both show shares of those in the last
-//! ticks. If numbers are given again, all threads that had one number share a column, and a line. A picture by currency
-//! has a line for each currency other than base instead, for the ticks of the threads below it.
+//! ticks. For a timed program a picture also has the due of each line. With a window, both show shares of the last
+//! ticks. With `reuse` all threads that had one number share a column, and a line. By currency a picture has a line for
+//! each currency other than base instead, for the ticks of the threads below it.
 //!
 //! Its tests stand in `lot_system_tests`.
 #![tactic(auto)]

@@ -5,7 +5,7 @@ ghost use Rattle.lot_chart.specs.Lines as definitions;
 use crate::Standing;
 use std::alloc::{AllocError, Global};
 
-/// The height of a line at 0 ticks: tenths of a unit from the top, like all of a picture's lengths.
+/// The height of a line at 0 ticks. All lengths of a picture are in tenths of a unit, and heights from its top.
 const BOTTOM: u32 = 4600;
 
 /// The height of the plot.
@@ -14,7 +14,7 @@ const HEIGHT: u32 = 4000;
 /// The height of the plot's top edge.
 const TOP: u32 = 600;
 
-/// The smallest distance between the names of two lines.
+/// The smallest distance between two lines' names.
 const APART: u32 = 160;
 
 /// A line of the picture.
@@ -32,7 +32,7 @@ pub struct PlotLine {
     pub place: u32,
 }
 
-/// The lines of these standings, which are in descending order of ticks, if the plot's top stands for the most.
+/// The lines of these standings, which are in descending order of ticks, given the ticks at the top of the plot.
 pub(crate) fn lines_of(
     alloc: Global,
     most: u64,
@@ -58,7 +58,7 @@ pub(crate) fn lines_of(
     Ok(lines)
 }
 
-/// The ticks of the first, which are the most.
+/// The ticks of the first standing, which are the most.
 pub(crate) fn most_in(shown: &[Standing]) -> u64
     ensures { result ≡ definitions.most_in shown.now }
 {
@@ -68,7 +68,7 @@ pub(crate) fn most_in(shown: &[Standing]) -> u64
     }
 }
 
-/// The height for this many ticks, if the top of the plot stands for the most.
+/// The height of this many ticks, given the ticks at the top of the plot.
 pub(crate) fn height_of(most: u64, ticks: u64) -> u32
     ensures exact { result ≡ definitions.height_of most ticks }
     ensures within { result ≤ 4600 }
@@ -76,7 +76,7 @@ pub(crate) fn height_of(most: u64, ticks: u64) -> u32
     fine_height_of(u128::from(most), u128::from(ticks))
 }
 
-/// The same for both in parts of a tick.
+/// Like `height_of`, with both in parts of a tick.
 pub(crate) fn fine_height_of(most: u128, parts: u128) -> u32
     requires { parts < 2 ^ 96 }
     ensures exact { result ≡ definitions.height_of most parts }
@@ -85,7 +85,7 @@ pub(crate) fn fine_height_of(most: u128, parts: u128) -> u32
     BOTTOM - fine_scaled(parts, most, HEIGHT)
 }
 
-/// The height of a name: at its line's end, but not above the least height, and with room for the names below it.
+/// The height of a name: at its line's end, with room for the names below it, and at least `least` from the top.
 fn place_of(least: u32, height: u32, more: u32) -> u32
     requires { more ≤ 12 }
     ensures exact { result ≡ definitions.place_of least height more }
@@ -93,7 +93,7 @@ fn place_of(least: u32, height: u32, more: u32) -> u32
     height.min(BOTTOM - APART * more).max(least)
 }
 
-/// The position of this value along a length, if the most is at its end.
+/// The position of this value along a length whose end is at `most`.
 pub(crate) fn scaled(value: u64, most: u64, length: u32) -> u32
     ensures exact { result ≡ definitions.scaled value most length }
     ensures within { result ≤ length }
@@ -101,7 +101,7 @@ pub(crate) fn scaled(value: u64, most: u64, length: u32) -> u32
     fine_scaled(u128::from(value), u128::from(most), length)
 }
 
-/// The same for greater numbers.
+/// Like `scaled`, for wider numbers.
 fn fine_scaled(value: u128, most: u128, length: u32) -> u32
     requires { value < 2 ^ 96 }
     ensures exact { result ≡ definitions.scaled value most length }

@@ -7,7 +7,7 @@ use crate::lines::scaled;
 use lot_curves::Curves;
 use std::alloc::{AllocError, Global};
 
-/// The columns of the plot: the whole units of its width, from its left edge to its right one.
+/// The number of columns of the plot, each one unit wide, from its left edge to its right one.
 const COLUMNS: usize = 671;
 
 /// The last column.
@@ -24,7 +24,7 @@ pub(crate) fn marked(alloc: Global, curves: &Curves) -> Result<Vec<Option<u32>>,
     Ok(marks)
 }
 
-/// Marks the column of this time, if it is in the picture and no earlier command stands there.
+/// Marks the column of this time, if the time is in the picture and no earlier command is in the column.
 fn mark_time(curves: &Curves, marks: &mut [Option<u32>], time: u32)
     requires { length marks.old ≡ 671 }
     ensures { (k : ℕ) → k < length marks.old → slice_index_or marks.new k None
@@ -48,7 +48,6 @@ fn is_within(curves: &Curves, time: u32) -> bool
     origin < time && time <= origin + curves.last()
 }
 
-/// The column of a time.
 fn column_of(curves: &Curves, time: u32) -> u32
     ensures exact { result ≡ definitions.column_of curves.now time }
     ensures within { result ≤ 670 }

@@ -1,4 +1,4 @@
-//! What is due to the lines of a picture: the program is played again, now that its lines and samples are known.
+//! The dues of a picture's lines: the program plays a second time, once its lines and samples are known.
 ghost use Rattle.std.specs.Prelude.{◌≡◌, ◌-◌, ◌*◌, ◌<◌, ◌≤◌, ◌^◌, ⊤, []};
 ghost use Rattle.std.specs.Prelude.{List, IfOk, IsSome, OnOk, Some, length, sum_by};
 ghost use Rattle.lot_machine.specs.Facts.{IsSound};
@@ -28,19 +28,19 @@ use std::alloc::{AllocError, Global};
 /// The billionths of a whole.
 pub(crate) const BILLION: u64 = 1000000000;
 
-/// Follows what threads or currencies are due, by their values from turn to turn.
+/// Follows the dues of threads or currencies, by their values, from turn to turn.
 #[derive(Drop)]
 pub struct Meter {
-    /// What the lines stand for.
+    /// The subjects of the lines.
     pub by: By,
     pub marks: Marks,
     /// The time of the last turn.
     pub time: u32,
-    /// The value that is shared out since then: of all live threads, or of all active tickets of base.
+    /// The total value since then: of all live threads, or of all active tickets of base.
     pub whole_value: u128,
-    /// The time in which it was worth anything.
+    /// The ticks during which the total value was above 0.
     pub live: Gauge,
-    /// What the thread or currency of each line is due.
+    /// The parts due to the thread or currency of each line.
     pub threads: Vec<Gauge>,
 }
 
@@ -61,7 +61,7 @@ impl Observer for Meter {
         system: &mut System,
         turn: &Turn,
     ) -> Result<(), AllocError> {
-        // Turns of a schedule have no time, and no picture of them shows what is due.
+        // Turns of a schedule have no time, and no picture of them shows dues.
         let time = turn.time.unwrap_or(0);
         self.pass(u64::from(time))?;
         self.time = time;
@@ -89,7 +89,7 @@ impl Meter {
         })
     }
 
-    /// Lets time pass up to this.
+    /// Advances the time of all gauges.
     fn pass(&mut self, time: u64) -> Result<(), AllocError>
         requires small { self.old.whole_value < 2 ^ 96 }
         requires clock { IsWithin self.old.whole_value self.old.live.growth }
@@ -107,7 +107,7 @@ impl Meter {
         )
     }
 
-    /// Takes over the values in this system.
+    /// Updates the values from this system.
     fn renew(&mut self, system: &mut System)
         requires sound { IsSound (world_of system.old).state }
         requires columns { EachGauge (λ gauge. IsColumn self.old.by (thread_of gauge.growth)) self.old.threads.items }
@@ -119,8 +119,8 @@ impl Meter {
     }
 }
 
-/// Plays the program with this meter. The playback is alive here alone, since each way out of a function drops what is
-/// alive there.
+/// Plays the program with this meter. The playback lives in a function of its own: each way out of a function drops its
+/// live values.
 fn play_metered(alloc: Global, program: &Program, meter: &mut Meter) -> Result<(), AllocError>
     requires { IsMeter program.now [] meter.old meter.old }
     ensures { OnOk result (IsMeter program.now (program_turns program.now) meter.old meter.new) }
@@ -141,7 +141,7 @@ fn gauges_of(alloc: Global, shown: &[Standing]) -> Result<Vec<Gauge>, AllocError
     Ok(gauges)
 }
 
-/// What is due to the lines of a picture, at each of its samples.
+/// The dues of a picture's lines, at each of its samples.
 pub struct LineDues {
     pub live: Gauge,
     pub threads: Vec<Gauge>,
@@ -158,7 +158,7 @@ impl Drop for LineDues {
 }
 
 impl LineDues {
-    /// What is due to these lines of the program's curves, if it is timed.
+    /// The dues of these lines of the program's curves, if the program is timed. Fails only if out of memory.
     pub(crate) fn of(
         alloc: Global,
         program: &Program,
@@ -175,7 +175,7 @@ impl LineDues {
         Ok(Some(dues))
     }
 
-    /// What is due to these lines of the timed program's curves.
+    /// The dues of these lines of the timed program's curves.
     fn of_timed(
         alloc: Global,
         program: &Program,
@@ -195,7 +195,7 @@ impl LineDues {
         Ok(LineDues { live, threads })
     }
 
-    /// The share due at a sample to the line at this place, in billionths.
+    /// The share due to the line at this index, at a sample, in billionths.
     pub(crate) fn share(&self, thread: u32, place: usize, sample: usize) -> u64
         requires due { (curves : CurvesRecord) × (dues : DuesRecord) × (shown : List StandingRecord)
             × AreDues curves dues shown self.now × IsLineOf shown place thread
@@ -216,7 +216,7 @@ impl LineDues {
         due_share(live, parts)
     }
 
-    /// The parts due at a sample to the threads without lines of their own.
+    /// The parts due, at a sample, to the threads without lines of their own.
     fn left_in(&self, sample: usize) -> u128
         requires live { grown_in self.now.live sample < 2 ^ 65 }
         requires there { (sample < length self.now.live.starts.items) × (sample < length self.now.live.ends.items) }
@@ -234,7 +234,7 @@ impl LineDues {
     }
 }
 
-/// The share that these parts are of so many ticks, in billionths.
+/// These parts as a share of the ticks `live`, in billionths.
 fn due_share(live: u128, parts: u128) -> u64
     requires { live < 2 ^ 65 }
     ensures exact { result ≡ definitions.due_share live parts }

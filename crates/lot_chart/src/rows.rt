@@ -17,7 +17,7 @@ ghost use Rattle.lot_chart.specs.Standings.{selected};
 ghost use Rattle.lot_chart.specs.Shown.{chart_output, shares_output, shown_of};
 ghost use Rattle.lot_chart.specs.Tables.{table};
 
-/// The ticks that two threads have run, and the draws that they have won. A draw counts from its own time.
+/// The ticks that two threads have run, and their won draws. A draw counts at its own time.
 #[tactic(auto, unfolding(lot_simulation::specs::OnLiterals::texts_on_literals))]
 pub fn tables()
     ensures ticks { table Ticks three_tick_curves
@@ -40,8 +40,8 @@ pub fn intervals()
 {}
 
 /// Thread a runs to tick 4, and thread b from there to tick 7. In a window of 3 ticks each has a part at ticks 5 and 6.
-/// Nobody has run at tick 0. A draw counts in each window that includes its tick, also as its first. In an interval no
-/// window begins before it.
+/// No thread has run at tick 0. A draw counts in each window that includes its tick, the window's first tick too. In an
+/// interval no window begins before it.
 #[tactic(auto, unfolding(lot_simulation::specs::OnLiterals::texts_on_literals))]
 pub fn windows()
     ensures ticks { table Ticks (windowed (Some 3) seven_tick_curves)
@@ -58,7 +58,7 @@ pub fn windows()
 {}
 
 /// The run as a picture, with a title that needs escapes; and its shares of the last two ticks. It has a schedule, so
-/// its picture doesn't show what is due.
+/// its picture shows no dues.
 #[tactic(auto, unfolding(crate::specs::OnLiterals::pictures_on_literals))]
 pub fn pictures()
     ensures whole { chart (codes "a < b") (dues_by Thread three_ticks) three_tick_curves ≡ three_tick_picture }
@@ -66,8 +66,7 @@ pub fn pictures()
         ≡ three_tick_window_picture }
 {}
 
-/// A picture of a timed program also shows what each line is due: its share of what was run, or of what was run in the
-/// window.
+/// A picture of a timed program also shows the due of each line: its share of the ticks run, or of those in the window.
 #[tactic(auto, unfolding(crate::specs::OnLiterals::timed_pictures_on_literals))]
 pub fn dues()
     ensures whole { chart_output (codes "due") two_rates ≡ two_rate_picture }
@@ -76,9 +75,9 @@ pub fn dues()
         (program_in two_rates) ≡ two_rate_window_picture }
 {}
 
-/// The commands at 11, 12 and 20 stand in one column and share a mark, and so do the two at 3500. The one at tick 0,
-/// on the left edge, and the one after the last tick have none. From tick 11 to 3511 those at 12 and 20 stand in
-/// columns of their own, and the one at 11 is on the left edge.
+/// The commands at 11, 12 and 20 are in one column and share a mark, and so do the two at 3500. The one at tick 0, on
+/// the left edge, and the one after the last tick have none. From tick 11 to 3511 those at 12 and 20 are in columns of
+/// their own, and the one at 11 is on the left edge.
 #[tactic(auto, unfolding(crate::specs::OnLiterals::pictures_on_literals))]
 pub fn marks()
     ensures whole { command_marks commanded_curves ≡ commanded_marks }
@@ -88,7 +87,7 @@ pub fn marks()
 {}
 
 /// Thread 1 ends at tick 2. At tick 3 it is removed, and thread 3 gets its name. The removed thread keeps its column,
-/// with its number as the name, and the ticks that it ran.
+/// with its number as the name, and its ticks.
 #[tactic(auto, unfolding(crate::specs::OnLiterals::outputs_on_literals))]
 pub fn removed()
     ensures { shares_output Ticks (text (codes "lottery 3" ∷ codes "quantum 10" ∷ codes "for 6" ∷ codes "script short"
@@ -98,8 +97,8 @@ pub fn removed()
         ∷ codes "4,2,0,1" ∷ codes "5,2,0,2" ∷ []) }
 {}
 
-/// With `reuse` the thread made at tick 3 gets the number of the one removed there. So both have one column, with the
-/// ticks of both and the name of the second.
+/// With `reuse` the thread made at tick 3 gets the number of the one removed there. Both share a column, with the ticks
+/// of both and the name of the second.
 #[tactic(auto, unfolding(crate::specs::OnLiterals::outputs_on_literals))]
 pub fn numbers_again()
     ensures { shares_output Ticks (text (codes "lottery 3" ∷ codes "quantum 10" ∷ codes "for 6" ∷ codes "reuse"
@@ -109,9 +108,9 @@ pub fn numbers_again()
         ∷ []) }
 {}
 
-/// Each turn counts for the currencies that its thread stood below before it, nested ones too: the one that ends at
-/// tick 2 comes after the commands of that time. With a window, shares are of the ticks of all turns, so they add up to
-/// more.
+/// Each turn counts for the currencies that its thread stood below before it, nested ones too. The turn that ends at
+/// tick 2 comes after the commands of that time. With a window, shares are of the ticks of all turns, so they may add
+/// up to more than all.
 #[tactic(auto, unfolding(crate::specs::OnLiterals::outputs_on_literals))]
 pub fn currencies()
     ensures ticks { shown_of (λ program. table Ticks (curves_by Currency program)) (program_in moved_below)
@@ -124,7 +123,7 @@ pub fn currencies()
 {}
 
 /// Of thirteen threads eleven have lines, and the others one together; of thirteen currencies twelve have lines, and
-/// the other has none. The label says what the lines are.
+/// the other has none. The label names the lines' subjects.
 pub fn lines()
     ensures thread { map (λ s. s.thread) (selected (record seven_tick_curves { stretches = [] }) thirteen).shown
         ≡ 1 ∷ 2 ∷ 3 ∷ 4 ∷ 5 ∷ 6 ∷ 7 ∷ 8 ∷ 9 ∷ 10 ∷ 11 ∷ 0 ∷ [] }
@@ -134,7 +133,7 @@ pub fn lines()
     ensures label { heights_label Currency None ≡ codes "what the threads of each currency have run, in ticks" }
 {}
 
-/// The top of a picture stands for the most ticks at the end of a line, or due to one if that is more.
+/// The top of a picture is the most ticks at the end of a line, or due to a line if that is more.
 pub fn tops()
     ensures ran { most_shown seven_tick_curves None seven_tick_standings ≡ 4 }
     ensures due { most_shown seven_tick_curves (Some all_to_the_first) seven_tick_standings ≡ 7 }

@@ -12,7 +12,7 @@ pub(crate) fn share_of(whole: u64, part: u64) -> u32
     share.min(1000) as u32
 }
 
-/// With a window, the ticks or draws of all threads in the one that ends at this tick.
+/// With a window, the ticks or draws of all threads in the window that ends at this tick.
 pub(crate) fn whole_at(curves: &Curves, measure: Measure, tick: u64) -> Option<u64>
     ensures { result ≡ definitions.whole_at measure curves.now tick }
 {

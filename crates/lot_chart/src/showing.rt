@@ -16,14 +16,15 @@ use crate::{gather, program_chart, table};
 use lot_curves::{By, Interval, Measure};
 use lot_io::{IoFault, Watched, flush, write_bytes};
 use lot_program::Program;
-use lot_system::{Played, Warnings, refuse};
+use lot_simulation::Warnings;
+use lot_system::{Played, refuse};
 use lot_text::{ParseFault, parse};
 use std::alloc::{AllocError, Global};
 use std::io::Write;
 
-/// Makes the turns of the input in `bytes`, and writes a table of each thread's ticks or draws over time; or one
-/// line, if the input is refused. It stores the run's warnings in `warnings`, also whether a refusal ended it. If out
-/// of memory, it writes nothing.
+/// Makes the turns of the input in `bytes`, and writes a table of each thread's ticks or draws over time; or one line
+/// for a refused input. It stores the run's warnings in `warnings`, and whether a refusal ended the run. Fails with
+/// `Memory` before it has written anything, and with `Write` if the writer fails.
 pub fn shares_bytes<W: Write>(
     alloc: Global,
     measure: Measure,
@@ -46,9 +47,10 @@ pub fn shares_bytes<W: Write>(
     }
 }
 
-/// Makes the turns of the input in `bytes`, and writes a picture with this title of each thread's ticks over time, and,
-/// if the program is timed, of what each was due; or one line, if the input is refused. It stores the run's warnings in
-/// `warnings`, also whether a refusal ended it. If out of memory, it writes nothing.
+/// Makes the turns of the input in `bytes`, and writes a picture with this title of each thread's ticks over time, with
+/// dues if the program is timed; or one line for a refused input. It stores the run's warnings in `warnings`, and
+/// whether a refusal ended the run. Fails with `Memory` before it has written anything, and with `Write` if the writer
+/// fails.
 pub fn chart_bytes<W: Write>(
     alloc: Global,
     title: &str,
@@ -80,9 +82,9 @@ pub fn chart_bytes<W: Write>(
     }
 }
 
-/// Makes the program's turns, and writes a table of each thread's ticks or draws over time, or in this interval of it;
-/// with a window, the shares of those in the last ticks. It stores the run's warnings in `warnings`, also whether a
-/// refusal ended it. If out of memory, it writes nothing.
+/// Makes the program's turns, and writes a table of each thread's ticks or draws over time, or over this interval; with
+/// a window, the shares of the last ticks. It stores the run's warnings in `warnings`, and whether a refusal ended the
+/// run. Fails with `Memory` before it has written anything, and with `Write` if the writer fails.
 pub fn shares_program<W: Write>(
     alloc: Global,
     measure: Measure,
@@ -107,11 +109,12 @@ pub fn shares_program<W: Write>(
     }
 }
 
-/// Makes the program's turns, and writes a picture with this title of each thread's ticks over time, or in this
-/// interval of it; with a window, of the shares of the last ticks. A picture of a timed program also shows what each
-/// was due, for which its turns are made a second time. By currency it shows the ticks of the threads below each
-/// currency and what the currency was due, if the program is timed; otherwise it is by thread. It stores the run's
-/// warnings in `warnings`, also whether a refusal ended it. If out of memory, it writes nothing.
+/// Makes the program's turns, and writes a picture with this title of each thread's ticks over time, or over this
+/// interval; with a window, of the shares of the last ticks. A picture of a timed program also shows dues, for which it
+/// makes the turns a second time. By currency the picture of a timed program shows the ticks of the threads below each
+/// currency, and the currency's due; another program's is by thread. It stores the run's warnings in `warnings`, and
+/// whether a refusal ended the run. Fails with `Memory` before it has written anything, and with `Write` if the writer
+/// fails.
 pub fn chart_program<W: Write>(
     alloc: Global,
     by: By,
@@ -138,7 +141,7 @@ pub fn chart_program<W: Write>(
     }
 }
 
-/// Writes the text, unless out of memory.
+/// Writes the text, or fails with `Memory` if there is none.
 fn write_text<W: Write>(
     text: Result<Vec<u8>, AllocError>,
     writer: &mut Watched<W>,

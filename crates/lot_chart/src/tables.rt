@@ -14,8 +14,8 @@ use lot_machine::Name;
 use std::alloc::{AllocError, Global};
 
 /// The table of the curves: a line with the columns' names, and one for each sample with each column's ticks or draws
-/// up to its tick, or with a window its share of those of all threads, in percent. There is a column for each number of
-/// a thread.
+/// up to its tick, or with a window its share of all threads' in percent. There is a column for each number of a
+/// thread. Fails only if out of memory.
 pub fn table(alloc: Global, curves: &Curves, measure: Measure) -> Result<Vec<u8>, AllocError>
     ensures { IfOk result (λ text. text.items ≡ tables.table measure curves.now) }
 {

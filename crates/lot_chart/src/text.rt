@@ -1,4 +1,4 @@
-//! Building a text.
+//! A text under construction.
 ghost use Rattle.std.specs.Prelude.{◌≡◌, ◌++◌, [], OnOk};
 ghost use Rattle.std.specs.Fmt.{decimal};
 ghost use Rattle.lot_chart.specs.Shares as shares;
@@ -7,7 +7,7 @@ use itoa::Buffer;
 use std::alloc::{AllocError, Global};
 use std::marker::Model;
 
-/// A text that grows at its end. If out of memory for a part, the text is discarded.
+/// A text that grows at its end. A failed allocation discards it.
 #[derive(Drop)]
 pub(crate) struct Text {
     bytes: Vec<u8>,
@@ -39,7 +39,7 @@ impl Text {
         bytes
     }
 
-    /// Appends the bytes.
+    /// Appends the bytes. Fails only if out of memory.
     pub(crate) fn push_bytes(&mut self, bytes: &[u8]) -> Result<(), AllocError>
         ensures { OnOk result (self.new ≡ self.old ++ bytes.now) }
     {

@@ -6,7 +6,7 @@ pub use Rattle.lot_io.specs.Reading.{HasRead}
 pub use Rattle.lot_engine.specs.Seen.{Setting}
 pub use Rattle.lot_system.proofs.Common.{Appends, Begins, any_ends_refused, end_text, ends_refused, fault_line, output_of, seeds_between}
 pub use Rattle.lot_system.specs.declared.inputs.Played.TheVariants.{Refused}
-pub use Rattle.lot_system.specs.declared.warnings.Warnings.{Warnings}
+pub use Rattle.lot_simulation.specs.declared.warnings.Warnings.{Warnings}
 pub use Rattle.lot_explain.specs.Explained.{explained_of}
 pub use Rattle.lot_explain.specs.declared.detail.Detail.{Detail}
 pub use Rattle.lot_chart.proofs.Common.{Bool, Currency, Err, InputFault, Interval, IoFault, List, Measure, None, Ok, Option, Played, Plays, Program, Result, Some, Thread, Watch, ap, came_of, chart, curves_of, dues_by, false, inl, inr, last_moment, program_in, refl, subst, sym, table, true, ℕ, [], ◌||◌, ◌∙◌, ◌∷◌, ◌≡◌}

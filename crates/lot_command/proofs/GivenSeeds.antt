@@ -1,4 +1,4 @@
--- With other seeds an input is refused or played as with its own.
+-- An input with other seeds is refused or played as with its own.
 use Rattle.lot_command.proofs.Common.{Err, InputFault, IoFault, List, Ok, Option, Played, Plays, Program, Refused, Result, View, Watch, came_of, fault_line, program_in, refl, seeded, shown_of, subst, sym, text_of, ℕ, ◌≡◌}
 
 pub came_seeded : (seed : Option ℕ) (input : Result Program InputFault) → came_of (seeded seed input) ≡ came_of input

@@ -1,4 +1,4 @@
--- The statuses that inputs call for, and what comes of them.
+-- The statuses that inputs call for, and the outcomes of inputs.
 use Rattle.lot_command.proofs.Common.{Bool, Err, ExitStatus, HasCome, HasRead, IfOk, IfSome, InputFault, IoFault, IsStatusFor, List, None, Ok, OnOk, Option, Played, Plays, Program, Request, Result, Showing, Some, View, Watch, any_ends_refused, ap, came_of, ends_refused, ends_refused_in, false, inl, input_ends_refused, inr, is_some, last_moment, program_in, refl, result_ok, seeded, seeds_between, status_of, status_of_input, subst, sym, true, view_ends_refused, with_seed, ℕ, [], ◌&&◌, ◌||◌, ◌∙◌, ◌∷◌, ◌≡◌}
 use Rattle.lot_system.specs.declared.inputs.Played.TheVariants as played
 use Rattle.lot_command.specs.declared.command_line.request.Request.TheVariants as requests
@@ -65,15 +65,15 @@ and-false : (b : Bool) → (b && false) ≡ false
 and-false true = refl
 and-false false = refl
 
-ends-lenient : (program : Program) → program.strict ≡ false → ends_refused program ≡ false
+ends-lenient : (program : Program) → program.options.strict ≡ false → ends_refused program ≡ false
 ends-lenient program is = ap (λ b. is_some program.duration && (b && (last_moment program).has_refused)) is ∙ and-false (is_some program.duration)
 
-any-lenient : (program : Program) → program.strict ≡ false → (seeds : List ℕ) → any_ends_refused program seeds ≡ false
+any-lenient : (program : Program) → program.options.strict ≡ false → (seeds : List ℕ) → any_ends_refused program seeds ≡ false
 any-lenient program is [] = refl
 any-lenient program is (seed ∷ seeds) = ap (λ b. b || any_ends_refused program seeds) (ends-lenient (with_seed (Some seed) program) is) ∙ any-lenient program is seeds
 
 -- a refusal ends no play of a program that isn't strict
-view-lenient : (view : View) (program : Program) → program.strict ≡ false → view_ends_refused view program ≡ false
+view-lenient : (view : View) (program : Program) → program.options.strict ≡ false → view_ends_refused view program ≡ false
 view-lenient views.Play program is = ends-lenient program is
 view-lenient (views.Report None form) program is = ends-lenient program is
 view-lenient (views.Report (Some seeds) form) program is = any-lenient program is (seeds_between seeds.first seeds.last)
@@ -81,14 +81,14 @@ view-lenient (views.Explain detail) program is = ends-lenient program is
 view-lenient (views.Shares measure interval window) program is = ends-lenient program is
 view-lenient (views.Chart by interval window) program is = ends-lenient program is
 
-strict-seeded : (seed : Option ℕ) (program : Program) → (with_seed seed program).strict ≡ program.strict
+strict-seeded : (seed : Option ℕ) (program : Program) → (with_seed seed program).options.strict ≡ program.options.strict
 strict-seeded None program = refl
 strict-seeded (Some seed) program = refl
 
 abbrev status_of_read : View → Option ℕ → Result Program InputFault → ExitStatus
 status_of_read view seed input = status_of (Some (came_of input)) (ends_refused_in view (seeded seed input))
 
-pub lenient-done : (view : View) (seed : Option ℕ) (bytes : List ℕ) (program : Program) → program_in bytes ≡ Ok program → program.strict ≡ false → status_of_input view seed bytes ≡ status.Done
+pub lenient-done : (view : View) (seed : Option ℕ) (bytes : List ℕ) (program : Program) → program_in bytes ≡ Ok program → program.options.strict ≡ false → status_of_input view seed bytes ≡ status.Done
 lenient-done view seed bytes program is lenient =
     ap (status_of_read view seed) is ∙ ap (status_of (Some played.Done)) (view-lenient view (with_seed seed program) (strict-seeded seed program ∙ lenient))
 

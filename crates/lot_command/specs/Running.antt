@@ -16,24 +16,24 @@ use Rattle.lot_io.specs.Writing.{Begins, IsFaultOf}
 use Rattle.lot_command.specs.declared.run.InputRunFault.{InputRunFault}
 use Rattle.lot_command.specs.declared.run.InputRunFault.TheVariants.{Play, Workers}
 
--- the program in the bytes as a run takes it, without time
+-- the program in the bytes as a free run takes it, without time
 abbrev pub timeless : Result Program InputFault → Result Program InputFault
 timeless (Ok program) = Ok (without_time program)
 timeless (Err fault) = Err fault
 
--- The report of a free run of the program was written, and lines that reproduce its history; or the line for a
+-- The output has the report of a free run of the program, and lines that reproduce its history; or the line for a
 -- refused input.
 abbrev pub HasRun : Result Program InputFault → Option (List ℕ) → Option (List ℕ) → Played → Type 0
 HasRun (Ok program) old new played = (played ≡ Done) × ((history : List ℕ) × IsFreeRun program history × Appends old new (end_text program history))
 HasRun (Err fault) old new played = (played ≡ Refused) × Appends old new (fault_line fault)
 
--- A beginning of the output of `HasRun` was written.
+-- the output has a beginning of the output of `HasRun`
 abbrev pub HasBegun : Result Program InputFault → Option (List ℕ) → Option (List ℕ) → Type 0
 HasBegun (Ok program) old new = (history : List ℕ) × IsFreeRun program history × Begins old new (end_text program history)
 HasBegun (Err fault) old new = Begins old new (fault_line fault)
 
--- On Ok the output of a free run was written; if the writer failed, a beginning of one; and on any other fault
--- nothing. The bytes were read before, so it is no fault of reading.
+-- On Ok the output of a free run was written; if the writer failed, a beginning of it; and on any other fault nothing.
+-- The bytes were read before, so no fault is one of reading.
 abbrev pub EndsRun : Result Program InputFault → Option (List ℕ) → Option (List ℕ) → Bool → Result Played InputRunFault → Type 0
 EndsRun input old new failed (Ok played) = (failed ≡ false) × HasRun input old new played
 EndsRun input old new failed (Err (Play Write)) = (failed ≡ true) × HasBegun input old new

@@ -18,8 +18,8 @@ use Rattle.lot_chart.specs.Tables.{table}
 use Rattle.lot_command.specs.declared.command_line.request.View.{View}
 use Rattle.lot_command.specs.declared.command_line.request.View.TheVariants as views
 
--- the output for a program, where a picture has this title; a table and a picture may be those of an interval of the
--- time, and of the shares in a window, and a picture by thread or by currency
+-- The output for a program, with this title for a picture. A table or a picture may be of an interval of time, or of
+-- the shares in a window, and a picture by thread or by currency.
 abbrev pub view_of : View → List ℕ → Program → List ℕ
 view_of views.Play title program = played_output program program.duration
 view_of (views.Report None form) title program = report_text form program
@@ -35,20 +35,20 @@ abbrev pub shown_of : View → List ℕ → Result Program InputFault → List �
 shown_of view title (Ok program) = view_of view title program
 shown_of view title (Err fault) = fault_line fault
 
--- the output for the input in these bytes, with this seed if one is given
+-- the output for the input in these bytes, with this seed, if one is given
 abbrev pub text_of : View → List ℕ → Option ℕ → List ℕ → List ℕ
 text_of view title seed bytes = shown_of view title (seeded seed (program_in bytes))
 
--- whether a refusal ends the play of a program in this view, or one of its plays if it has several
+-- whether a refusal ends the play of a program in this view, or one of its several plays
 abbrev pub view_ends_refused : View → Program → Bool
 view_ends_refused (views.Report (Some seeds) form) program = any_ends_refused program (seeds_between seeds.first seeds.last)
 view_ends_refused other program = ends_refused program
 
--- the same for an input: a refused one isn't played
+-- the same for an input; a refused one has no play
 abbrev pub ends_refused_in : View → Result Program InputFault → Bool
 ends_refused_in view (Ok program) = view_ends_refused view program
 ends_refused_in view (Err fault) = false
 
--- the same for the input in these bytes, with this seed if one is given
+-- the same for the input in these bytes, with this seed, if one is given
 abbrev pub input_ends_refused : View → Option ℕ → List ℕ → Bool
 input_ends_refused view seed bytes = ends_refused_in view (seeded seed (program_in bytes))

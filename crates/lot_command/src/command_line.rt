@@ -1,7 +1,7 @@
-//! The command line: the words of a call of the program, parsed, and the subcommands with their options.
+//! The command line: parsing the words of a call of the program, and the subcommands with their options.
 //!
-//! A contract says which intervals are empty. Of everything else the proofs show only that it is safe and terminates;
-//! the tests of `lot_command_tests` check what words ask for.
+//! A contract says which intervals are empty. Otherwise the proofs show only safety and termination; the tests of
+//! `lot_command_tests` check the requests.
 mod parsing;
 mod request;
 mod subcommands;

@@ -7,27 +7,26 @@ use lot_diagnostics::{
     Asked, Location, line_to_skip, write_no_thread, write_notes, write_warnings, write_words,
 };
 use lot_io::{IoFault, Watched};
-use lot_simulation::InputFault;
-use lot_system::Warnings;
+use lot_simulation::{InputFault, Warnings};
 use lot_text::{ParseFault, parse};
 use std::alloc::{AllocError, Global};
 use std::io::{ErrorKind, Write};
 use std::{fmt, io};
 
-/// The largest number of faults that are reported of an input.
+/// The largest number of faults that the program reports of an input.
 const MOST_FAULTS: u32 = 10;
 
-/// What is said after them, if the input has more.
+/// The message after them, if the input has more.
 const MORE_FAULTS: &str = "there are more faults";
 
-/// What is said if there is no memory to say more.
+/// The message if there is no memory for another.
 const NO_MEMORY: &str = "out of memory\n";
 
-/// The diagnostics for standard error. The output doesn't depend on them, and of the status only whether a refusal
+/// The diagnostics for standard error. The output doesn't depend on them. The status depends only on whether a refusal
 /// ended a strict play.
 #[derive(Drop)]
 pub(crate) struct Diagnostics {
-    /// The input, whose lines they name; after a play without the lines of the schedule at its end.
+    /// The input, whose lines the diagnostics name; after a play without the schedule lines at its end.
     pub(crate) input: Vec<u8>,
     /// The warnings of its run.
     pub(crate) warnings: Warnings,
@@ -44,8 +43,8 @@ impl Diagnostics {
         })
     }
 
-    /// Keeps an input that is about to be played, since only its turns determine the lines to be named. None of them is
-    /// a line of the schedule, so it frees those at the end.
+    /// Stores an input before its play. The diagnostics name lines of its turns only, and none of these is a schedule
+    /// line, so it frees the schedule lines at the end.
     pub(crate) fn keep_played(&mut self, input: Vec<u8>)
         ensures { self.new.warnings ≡ self.old.warnings }
     {
@@ -55,9 +54,9 @@ impl Diagnostics {
         self.input.shrink_to_fit();
     }
 
-    /// Writes the faults of the refused input, that of the file with this name or of standard input, a line for each:
-    /// the first, and up to nine others that aren't its consequences. It turns the faulty lines into comments. If out
-    /// of memory, or if the errors fail, it reports no more faults.
+    /// Writes the faults of the refused input, a line for each: the first, and up to nine others that aren't its
+    /// consequences. Messages name the input by this file's name, or as standard input. It turns the faulty lines into
+    /// comments. If out of memory, or if the errors fail, it reports no more faults.
     pub(crate) fn say_why<E: Write>(
         &mut self,
         alloc: Global,
@@ -80,7 +79,7 @@ impl Diagnostics {
         }
     }
 
-    /// The first fault of the input. None if it has none, or if out of memory.
+    /// The first fault of the input, or `None` if it has none, or if out of memory.
     fn fault(&self, alloc: Global) -> Option<InputFault> {
         match parse(alloc, self.input.as_slice()) {
             Err(ParseFault::Input(fault)) => Some(fault),
@@ -88,7 +87,7 @@ impl Diagnostics {
         }
     }
 
-    /// Writes the words of this fault at once. It fails if out of memory, or if the errors fail.
+    /// Writes the words of this fault in one write. It fails if out of memory, or if the errors fail.
     fn say_fault<E: Write>(
         &self,
         alloc: Global,
@@ -101,7 +100,7 @@ impl Diagnostics {
         errors.write_all(words.as_slice())
     }
 
-    /// Turns the line with this fault into a comment, and returns true; or returns false if the line can't be skipped.
+    /// Turns the line with this fault into a comment and returns true, or returns false if the line can't be skipped.
     fn skip(&mut self, alloc: Global, fault: InputFault) -> bool {
         let Some(place) = line_to_skip(alloc, self.input.as_slice(), fault) else {
             return false;
@@ -145,8 +144,8 @@ impl Diagnostics {
     }
 }
 
-/// Writes why a request on the file with this name, or on standard input, has failed, where the reader or the writer
-/// gave this reason if one has. A closed pipe is no failure to be told, since its reader wants no more. If the errors
+/// Writes why a request on the file with this name, or on standard input, has failed, with this reason from the reader
+/// or the writer, if one gave it. A closed pipe is no failure to report, since its reader wants no more. If the errors
 /// fail, it reports nothing.
 pub(crate) fn say_failure<E: Write>(
     alloc: Global,
@@ -170,7 +169,7 @@ pub(crate) fn say_failure<E: Write>(
     }
 }
 
-/// Writes that there is no memory, which takes none. If the errors fail, it reports nothing.
+/// Writes that there is no memory, without memory. If the errors fail, it reports nothing.
 pub(crate) fn say_no_memory<E: Write>(errors: &mut Watched<E>) {
     let _ = errors.write_all(NO_MEMORY.as_bytes());
 }
@@ -202,7 +201,7 @@ fn write_failure<W: Write>(
     }
 }
 
-/// The reason of a failure, if it is known.
+/// The reason for a failure, if it is known.
 #[derive(Clone, Copy)]
 struct Because(Option<io::Error>);
 
@@ -215,7 +214,7 @@ impl fmt::Display for Because {
     }
 }
 
-/// Writes these words to the errors at once, unless out of memory.
+/// Writes these words to the errors in one write, unless out of memory.
 fn say<E: Write>(errors: &mut Watched<E>, made: io::Result<()>, words: &Vec<u8>) {
     if made.is_ok() && !words.is_empty() {
         let _ = errors.write_all(words.as_slice());

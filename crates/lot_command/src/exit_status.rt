@@ -25,10 +25,9 @@ use std::thread::Threads;
 /// The text for a command line that isn't UTF-8.
 const NOT_UTF8: &str = "error: invalid UTF-8 was detected in one or more arguments\n";
 
-/// The number of output bytes written at a time.
+/// The number of output bytes in one write.
 const BUFFER: usize = 65536;
 
-/// An exit status.
 #[derive(Clone, Copy)]
 enum ExitStatus {
     /// Success, or help was requested.
@@ -125,7 +124,7 @@ fn line_status<H: Threads + Wait + Sync, I: Inputs, W: Write + Drop, E: Write + 
     }
 }
 
-/// The exit status of the command line, whose input this reader reads.
+/// The exit status of the command line, given the reader of its input.
 fn request_status<H: Threads + Wait + Sync, R: Read + Drop, W: Write + Drop, E: Write + Drop>(
     rt: &H,
     alloc: Global,
@@ -166,8 +165,8 @@ fn request_status<H: Threads + Wait + Sync, R: Read + Drop, W: Write + Drop, E: 
     status
 }
 
-/// Writes the output of the request on the input of this reader, a picture with this title. It returns what came of
-/// the input, or why the request failed, and stores diagnostics in `diagnostics`.
+/// Writes the output of the request on the input of this reader, with this title for a picture. It returns the outcome
+/// of the input, or why the request failed, and stores diagnostics in `diagnostics`.
 fn answer<H: Threads + Wait + Sync, R: Read, W: Write>(
     rt: &H,
     alloc: Global,
@@ -189,7 +188,7 @@ fn answer<H: Threads + Wait + Sync, R: Read, W: Write>(
     }
 }
 
-/// The exit status after a request, given what came of its input, if the request didn't fail, and whether a refusal
+/// The exit status after a request, given the outcome of its input, if the request didn't fail, and whether a refusal
 /// ended its play.
 fn status_of(came: &Result<Played, InputRunFault>, stopped: bool) -> ExitStatus
     ensures status { result ≡ statuses.status_of (result_ok came.now) stopped }
@@ -209,7 +208,7 @@ fn status_of(came: &Result<Played, InputRunFault>, stopped: bool) -> ExitStatus
 }
 
 /// Writes the diagnostics of a request: the warnings of a run, why an input was refused, or why the request failed,
-/// with the reason that the reader or the writer gave if one has.
+/// with the reason from the reader or the writer, if one gave it.
 fn say_outcome<E: Write>(
     alloc: Global,
     line: &CommandLine<'_>,
@@ -228,7 +227,7 @@ fn say_outcome<E: Write>(
     }
 }
 
-/// What the request asks of an input that wasn't refused, whose run has left these diagnostics.
+/// The request on an accepted input, for the diagnostics that its run has left.
 fn asked_of(request: &Request, diagnostics: &Diagnostics) -> Asked {
     match request {
         Request::Run => Asked::Run,
@@ -242,7 +241,7 @@ fn asked_of(request: &Request, diagnostics: &Diagnostics) -> Asked {
     }
 }
 
-/// The time from which on the view shows a play, if it doesn't show all of it.
+/// The time from which the view shows a play, if it doesn't show all of it.
 fn beginning_of(view: &View) -> Option<u64> {
     match view {
         View::Shares {

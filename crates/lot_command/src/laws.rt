@@ -16,8 +16,8 @@ ghost use Rattle.lot_command.specs.declared.command_line.request.View.TheVariant
 ghost use Rattle.lot_command.specs.Statuses.{status_of_input};
 ghost use Rattle.lot_command.specs.Views.{text_of, view_ends_refused, view_of};
 
-/// Without a given seed, interval or window, the text of each view is the library's output for the same bytes; of a
-/// picture, by thread. A picture by currency of a program without a duration is that by thread.
+/// Without a given seed, interval or window, the text of each view is the library's output for the same bytes; a
+/// picture's is the one by thread. A picture by currency of a program without a duration is the one by thread.
 pub fn texts_without_a_seed()
     ensures play { (title bytes : List ℕ) → text_of views.Play title None bytes ≡ output bytes }
     ensures explain { (detail : Detail) (title bytes : List ℕ)
@@ -36,7 +36,7 @@ pub fn texts_without_a_seed()
 /// it is refused. If a refusal ends the play with its own seeds, it calls for that status, too.
 pub fn statuses_of_inputs()
     ensures lenient { (view : View) (seed : Option ℕ) (bytes : List ℕ) (program : Program)
-        → program_in bytes ≡ Ok program → program.strict ≡ false → status_of_input view seed bytes ≡ Done }
+        → program_in bytes ≡ Ok program → program.options.strict ≡ false → status_of_input view seed bytes ≡ Done }
     ensures refused { (view : View) (seed : Option ℕ) (bytes : List ℕ) (fault : InputFault)
         → program_in bytes ≡ Err fault → status_of_input view seed bytes ≡ Refused }
     ensures stopped { (view : View) (bytes : List ℕ) (program : Program) → program_in bytes ≡ Ok program

@@ -9,7 +9,8 @@ use crate::diagnostics::Diagnostics;
 use lot_io::{IoFault, Watched, read_input};
 use lot_processors::{FreeRunFault, OpenGate, free_run};
 use lot_program::Program;
-use lot_system::{Played, System, Warnings, refuse, write_end};
+use lot_simulation::Warnings;
+use lot_system::{Played, System, note_end, refuse, write_end};
 use lot_text::{ParseFault, parse};
 use std::alloc::Global;
 use std::io::{Read, Write};
@@ -17,7 +18,7 @@ use std::sync::Wait;
 use std::thread::Threads;
 use thiserror::Error;
 
-/// The reason why a free run of an input stops early. Nothing was written unless the writer failed.
+/// The reason why a free run of an input stops early. Only a failed writer may have written something.
 #[derive(Debug, Drop, Error)]
 pub enum InputRunFault {
     /// Out of memory, or the reader or the writer failed.
@@ -28,9 +29,8 @@ pub enum InputRunFault {
     Workers(FreeRunFault),
 }
 
-/// Reads an input, lets workers make its commands and its processors' turns, and writes the report and the history;
-/// or one line, if the input is refused. It ignores the schedule. It stores diagnostics in `diagnostics`. It may
-/// block.
+/// Reads an input, lets workers make its commands and its processors' turns, and writes the report and the history; or
+/// one line for a refused input. It ignores the schedule. It stores diagnostics in `diagnostics`. It may block.
 pub(crate) fn run<R: Read, W: Write, H: Threads + Wait + Sync>(
     rt: &H,
     alloc: Global,
@@ -63,12 +63,12 @@ pub(crate) fn run<R: Read, W: Write, H: Threads + Wait + Sync>(
 }
 
 /// Lets workers make the commands of the input in `bytes` and its processors' turns, and writes the report and the
-/// history; or one line, if the input is refused. It ignores the schedule. It stores the run's warnings in
-/// `warnings`. It may block.
+/// history; or one line for a refused input. It ignores the schedule. It stores the run's warnings in `warnings`. It
+/// may block.
 ///
 /// Fails with `InputRunFault::Play` if out of memory before the workers start, or if the writer fails, and with
-/// `InputRunFault::Workers` if the workers run out of memory or stop early. Nothing was written unless the writer
-/// failed.
+/// `InputRunFault::Workers` if the workers run out of memory or stop early. Only a failed writer may have written
+/// something.
 pub fn run_bytes<W: Write, H: Threads + Wait + Sync>(
     rt: &H,
     alloc: Global,
@@ -119,6 +119,6 @@ fn run_program<W: Write, H: Threads + Wait + Sync>(
 fn noted(system: &mut System, warnings: &mut Warnings) -> Played
     ensures { result ≡ Done }
 {
-    warnings.note_end(system);
+    note_end(warnings, system);
     Played::Done
 }

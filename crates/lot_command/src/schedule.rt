@@ -13,11 +13,11 @@ pub(crate) fn without_schedule(input: &[u8]) -> &[u8] {
     rest
 }
 
-/// The input before its last line, if that is a line of the schedule.
+/// The input before its last line, if that line is a schedule line.
 fn before_schedule_line(input: &[u8]) -> Option<&[u8]>
     ensures shorter { IfSome result (λ before. length before.now < length input.now) }
 {
-    // The last byte ends the last line, or is one of its own.
+    // The last byte ends the last line, or is a line of its own.
     let last = input.len().checked_sub(1)?;
     let start = match memrchr(b'\n', &input[..last]) {
         Some(end) => end + 1,
@@ -30,7 +30,7 @@ fn before_schedule_line(input: &[u8]) -> Option<&[u8]>
     }
 }
 
-/// Whether a line begins with a word of the schedule, as no other line does.
+/// Whether a line begins with a word of the schedule. No other line does.
 fn is_schedule_line(line: &[u8]) -> bool {
     line.starts_with(SCHEDULE_WORD) || line.starts_with(RUNS_WORD)
 }

@@ -1,4 +1,4 @@
-//! Where an input comes from: standard input, or a file. And why a reader or a writer has failed.
+//! The sources of an input, standard input or a file, and the reasons why readers and writers fail.
 ghost use Rattle.std.specs.Prelude.{◌≡◌, IfErr, None, OnOk, Some};
 ghost use Rattle.std.specs.Io.{ReadsAtMost, WritesAtMost};
 ghost use Rattle.std.specs.Io.KnownBytes.{Keeps, ReadConsumes, WriteAppends};
@@ -6,7 +6,7 @@ ghost use Rattle.std.specs.Io.KnownBytes.{Keeps, ReadConsumes, WriteAppends};
 use std::io;
 use std::io::{Read, Write};
 
-/// The inputs that a command line can name. One of them is taken.
+/// The inputs that a command line can name. The program takes one of them.
 pub trait Inputs: Drop {
     /// The reader of standard input.
     type Standard: Read + Drop;
@@ -24,7 +24,7 @@ pub trait Inputs: Drop {
         Self: Sized;
 }
 
-/// A reader or a writer that records the reason of its last failure, which `Watched` doesn't.
+/// A reader or a writer that records the reason for its last failure, which `Watched` doesn't.
 #[derive(Drop)]
 pub(crate) struct Recorded<T> {
     inner: T,
@@ -32,7 +32,7 @@ pub(crate) struct Recorded<T> {
 }
 
 impl<T> Recorded<T> {
-    /// This reader or writer, which hasn't failed yet.
+    /// This reader or writer, with no failure yet.
     pub(crate) fn new(inner: T) -> Self
         ensures { result ≡ record { inner = inner; failure = None } }
     {
@@ -44,7 +44,7 @@ impl<T> Recorded<T> {
 }
 
 impl<T: Drop> Recorded<T> {
-    /// The reason of the last failure, if it has failed.
+    /// The reason for the last failure, if there is one.
     pub(crate) fn into_failure(self) -> Option<io::Error>
         ensures { result ≡ self.failure }
     {

@@ -13,13 +13,14 @@ use lot_chart::{chart_program, shares_program};
 use lot_explain::explain_program;
 use lot_io::{IoFault, Watched, read_input};
 use lot_program::Program;
-use lot_system::{Played, Warnings, play_program, refuse, report_program, report_seeds};
+use lot_simulation::Warnings;
+use lot_system::{Played, play_program, refuse, report_program, report_seeds};
 use lot_text::{ParseFault, parse_seeded};
 use std::alloc::Global;
 use std::io::{Read, Write};
 
-/// Writes this view of the input of this reader, a picture with this title. It returns what came of the input, or why
-/// it failed, and stores diagnostics in `diagnostics`.
+/// Writes this view of the input of this reader, with this title for a picture. It returns the outcome of the input, or
+/// why it failed, and stores diagnostics in `diagnostics`.
 pub(crate) fn shown<R: Read, W: Write>(
     alloc: Global,
     showing: &Showing,
@@ -39,8 +40,8 @@ pub(crate) fn shown<R: Read, W: Write>(
     }
 }
 
-/// Reads an input, makes its turns, and writes this view of them, a picture with this title; or one line, if the input
-/// is refused. It stores diagnostics in `diagnostics`, also whether a refusal ended the play.
+/// Reads an input, makes its turns, and writes this view of them, with this title for a picture; or one line for a
+/// refused input. It stores diagnostics in `diagnostics`, and whether a refusal ended the play.
 fn show<R: Read, W: Write>(
     alloc: Global,
     showing: &Showing,
@@ -61,7 +62,7 @@ fn show<R: Read, W: Write>(
 }
 
 /// Makes the turns of the input in `bytes`, and writes this view of them, or the line for a refused input. It stores
-/// the input and the run's warnings in `diagnostics`, also whether a refusal ended the play.
+/// the input and the run's warnings in `diagnostics`, and whether a refusal ended the play.
 #[tactic(auto, using(crate::proofs::GivenSeeds::came_seeded))]
 fn show_bytes<W: Write>(
     alloc: Global,
@@ -92,7 +93,7 @@ fn show_bytes<W: Write>(
     }
 }
 
-/// Makes the program's turns, and writes this view of them. It stores the run's warnings in `warnings`, also whether a
+/// Makes the program's turns, and writes this view of them. It stores the run's warnings in `warnings`, and whether a
 /// refusal ended the play.
 fn show_program<W: Write>(
     alloc: Global,

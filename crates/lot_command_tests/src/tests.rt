@@ -157,8 +157,8 @@ fn check_plays<H: Abort + Threads + Wait + Sync>(
     }
 }
 
-/// Plays the two threads above after this header and with this schedule, and compares what is written after the lines
-/// of their commands.
+/// Plays the two threads above after this header and with this schedule, and compares the output after the lines of
+/// their commands.
 fn check_spinners<H: Abort + Threads + Wait + Sync>(
     rt: &H,
     alloc: Global,
@@ -239,7 +239,7 @@ processor 1 quanta 1 idle 1 ticks 6
 total turns 6 quanta 1 ticks 6
 ";
 
-/// Two processors and one thread, and one turn of the console too many, which isn't counted.
+/// Two processors and one thread, and one turn of the console too many, which doesn't count.
 const TWO_PROCESSORS: &str = "lottery 1
 processors 2
 script spin
@@ -283,7 +283,7 @@ processor 1 quanta 0 idle 0 ticks 0
 total turns 5 quanta 0 ticks 0
 ";
 
-/// The paper's currency graph: alice and bob share base, and hand on what they have to their tasks (4.4).
+/// The paper's currency graph: alice and bob share base, and pass on their values to their tasks (4.4).
 const CURRENCY_GRAPH: &str = "lottery 1
 script spin
 compute 100
@@ -442,7 +442,7 @@ processor 1 quanta 1 idle 2 ticks 10
 total turns 5 quanta 1 ticks 10
 ";
 
-/// A currency worth 256 units, which are one of base: a thread has 2 of them and the other 253, so that both show 0.
+/// A currency worth 256 units, one of base: a thread has 2 of them and the other 253, so both print as 0.
 const LESS_THAN_ONE: &str = "lottery 2
 script s
 compute 100
@@ -551,7 +551,7 @@ processor 1 quanta 3 idle 0 ticks 4
 total turns 11 quanta 3 ticks 4
 ";
 
-/// Inputs, and what playing them writes.
+/// Inputs, and the outputs of their plays.
 static PLAYS: [(&str, &str); 13] = [
     ("lottery 1", EMPTY_REPORT),
     ("lottery 1\n", EMPTY_REPORT),
@@ -579,7 +579,7 @@ const CALL: &str = "lottery 1\nquantum 10\nport p\nscript srv\n";
 /// The front of a script, up to its first line.
 const SCRIPT: &str = "lottery 1\nscript s\n";
 
-/// The front of an input and its rest, and what playing it writes.
+/// The front of an input and its rest, and the output of its play.
 const REFUSED: &[(&str, &str, &str)] = &[
     ("", "", "refused line 1 50 BadHeader\n"),
     (SCRIPT, "compute 5\n", "refused line 2 54 OpenScript\n"),
@@ -696,7 +696,7 @@ fn strict_inputs(rt: HostRuntime) {
     check_same_at(&rt, &"run", &code, &0);
 }
 
-/// The exit status for the strict input, and whether nothing was told.
+/// The exit status for the strict input, and whether there are no diagnostics.
 fn strict_end<H: Threads + Wait + Sync>(rt: &H, alloc: Global, words: &[&str]) -> (u8, bool) {
     let ended = ended_on(rt, alloc, words, STRICT);
     (ended.code, ended.errors.is_empty())
@@ -714,7 +714,7 @@ total turns 1 quanta 0 ticks 0 refused 0 left 0
     check_play(&rt, rt.alloc(), input, 0, output);
 }
 
-/// Checks the exit status of these words, and where a text was written.
+/// Checks the exit status of these words, and which output got a text.
 fn check_words<H: Abort + Threads + Wait + Sync>(
     rt: &H,
     alloc: Global,
@@ -758,7 +758,7 @@ fn version(rt: HostRuntime) {
     check_same(&rt, &ended.found("lot_sim 0.4.0\n"), &(0, true, false));
 }
 
-/// Words that are refused, and what is told of them up to the line that says how to get help.
+/// Refused words, and their diagnostics up to the line that says how to get help.
 const TOLD_OF_WORDS: &[(&[&str], &str)] = &[
     (
         &["lot_sim", "x.lot"],
@@ -811,7 +811,7 @@ fn told_of_words(rt: HostRuntime) {
     }
 }
 
-/// A word that isn't UTF-8 ends with 2, as a wrong word does, and out of memory with 3.
+/// A word that isn't UTF-8 gives status 2, like a wrong word, and out of memory 3.
 #[test]
 fn unread_command_lines(rt: HostRuntime) {
     for (kind, code) in [(ErrorKind::InvalidData, 2), (ErrorKind::OutOfMemory, 3)] {
@@ -855,7 +855,7 @@ impl Write for Failing {
     }
 }
 
-/// Plays what a reader gives before it fails in this way, and compares what is told.
+/// Plays the bytes of a reader before it fails in this way, and compares the diagnostics.
 fn check_reader<H: Abort + Threads + Wait + Sync>(
     rt: &H,
     alloc: Global,
@@ -868,7 +868,7 @@ fn check_reader<H: Abort + Threads + Wait + Sync>(
     check_same_at(rt, &told, &found, &(3, true, told));
 }
 
-/// Has the program write with these words to a writer that fails in this way, and compares what is told.
+/// Calls the program with these words and a writer that fails in this way, and compares the diagnostics.
 fn check_writer<H: Abort + Threads + Wait + Sync>(
     rt: &H,
     alloc: Global,
@@ -884,7 +884,7 @@ fn check_writer<H: Abort + Threads + Wait + Sync>(
     check_same_at(rt, &words, &(code, found), &(3, told));
 }
 
-/// Ways in which a reader fails, and what is told.
+/// Ways in which a reader fails, and the diagnostics.
 const UNREAD: &[(ErrorKind, &str)] = &[
     (ErrorKind::Other, "cannot read the input: other error\n"),
     (
@@ -893,7 +893,7 @@ const UNREAD: &[(ErrorKind, &str)] = &[
     ),
 ];
 
-/// Ways in which a writer fails, and what is told. Whoever closes a pipe wants no more.
+/// Ways in which a writer fails, and the diagnostics. The closer of a pipe wants no more.
 const UNWRITTEN: &[(ErrorKind, &str)] = &[
     (
         ErrorKind::StorageFull,
@@ -914,8 +914,8 @@ fn failures(rt: HostRuntime) {
     }
 }
 
-/// A writer that keeps what it takes and whether all of that was flushed, and whose call of this number fails: with
-/// an error of this kind, or by taking nothing.
+/// A writer that records the bytes that it accepts and whether all of them were flushed. Its call of this number fails:
+/// with an error of this kind, or by accepting nothing.
 struct FailingCall {
     written: Vec<u8>,
     is_flushed: bool,
@@ -949,8 +949,8 @@ impl FailingCall {
         }
     }
 
-    /// If it has failed, whether that was its last call, and it took a beginning of this text. Otherwise whether it
-    /// took the whole text, and that was flushed.
+    /// After a failure, whether the failed call was the last, and the accepted bytes are a beginning of this text.
+    /// Otherwise whether they are the whole text, and flushed.
     fn has_taken(&self, text: &[u8], has_failed: bool) -> bool {
         let written = self.written.as_slice();
         if has_failed {
@@ -960,7 +960,7 @@ impl FailingCall {
         }
     }
 
-    /// Counts one more call, and fails if it is to.
+    /// Counts one more call, and fails if it is the one.
     fn call(&mut self) -> io::Result<()> {
         self.calls = self.calls.saturating_add(1);
         match self.kind {
@@ -987,8 +987,8 @@ impl Write for FailingCall {
     }
 }
 
-/// Plays the input to a writer whose call of this number fails. Returns how that ended, whether the writer has failed,
-/// and the writer.
+/// Plays the input to a writer whose call of this number fails. Returns the result, whether the writer failed, and the
+/// writer.
 fn played_to(
     alloc: Global,
     input: &str,
@@ -1002,8 +1002,8 @@ fn played_to(
     (ended, has_failed, writer.into_inner())
 }
 
-/// Plays the input to a writer whose call of this number fails, and returns whether it has failed: then what it took
-/// is a beginning of the whole output.
+/// Plays the input to a writer whose call of this number fails. Returns whether the writer failed; then it accepted a
+/// beginning of the whole output.
 fn writing_fails(
     rt: &impl Abort,
     alloc: Global,
@@ -1022,7 +1022,7 @@ fn writing_fails(
     has_failed
 }
 
-/// The number of the first write or flush whose failure never occurs, since there are fewer calls.
+/// The number of the first write or flush that never comes, since there are fewer calls.
 fn first_unmade_write(
     rt: &impl Abort,
     alloc: Global,
@@ -1037,7 +1037,7 @@ fn first_unmade_write(
     0
 }
 
-/// The input with tables of these limits, which come after this front of it.
+/// The input with tables of these limits, inserted after this front.
 fn with_limits(rt: &impl Abort, alloc: Global, input: &str, front: &str, limits: &str) -> String {
     let rest = input.strip_prefix(front).expect(rt, "a first line");
     format!(in alloc; "{front}limits {limits}\n{rest}").expect(rt, "memory")
@@ -1046,8 +1046,8 @@ fn with_limits(rt: &impl Abort, alloc: Global, input: &str, front: &str, limits:
 /// The ways in which a call fails: with an error of this kind, or by accepting no byte.
 const WAYS: &[Option<ErrorKind>] = &[Some(ErrorKind::Other), Some(ErrorKind::Interrupted), None];
 
-/// Plays the input with tables of these limits, which come after this front, to writers that fail in each way at each
-/// of their calls. The page of turns, five lines of the report and, if it can fail, the flush: at least that many calls
+/// Plays the input with tables of these limits, inserted after this front, to writers that fail in each way at each of
+/// their calls. The page of turns, five lines of the report and, if it can fail, the flush: at least that many calls
 /// fail.
 fn check_failing_writers(
     rt: &impl Abort,
@@ -1063,7 +1063,7 @@ fn check_failing_writers(
     }
 }
 
-/// The front of the input of a call and its reply, which the limits come after.
+/// The front of the input of a call and its reply, after which the limits come.
 const CALL_FRONT: &str = "lottery 1\nquantum 10\n";
 
 #[test]
@@ -1095,7 +1095,7 @@ impl Read for FailingRead<'_> {
     }
 }
 
-/// Plays the input from a reader whose call of this number fails, and returns whether it has failed: then nothing was
+/// Plays the input from a reader whose call of this number fails. Returns whether the reader failed; then nothing was
 /// written.
 fn reading_fails(
     rt: &impl Abort,
@@ -1125,7 +1125,7 @@ fn reading_fails(
     has_failed
 }
 
-/// The number of the first read whose failure never occurs, since there are fewer calls.
+/// The number of the first read that never comes, since there are fewer calls.
 fn first_unmade_read(rt: &impl Abort, alloc: Global, row: (&str, &str), kind: ErrorKind) -> u32 {
     for call in 1..1000 {
         if !reading_fails(rt, alloc, row, call, kind) {

@@ -24,6 +24,7 @@ has-below s c (Answered e (reply.Currency n)) = refl
 has-below s c (Answered e (reply.Thread n)) = refl
 has-below s c (Answered e (reply.Funded ticket thread)) = refl
 has-below s c (Answered e reply.Done) = refl
+has-below s c (Answered e (reply.Killed thread)) = refl
 has-below s c (Answered e (reply.List kind)) = refl
 has-below s c (Answered e (reply.Winner thread number total delivered)) = refl
 has-below s c (Answered e reply.Idle) = refl

@@ -1,4 +1,4 @@
--- Stretches that are cut to an interval.
+-- Stretches cut to an interval.
 use Rattle.lot_curves.proofs.Common.{Bool, Curves, List, Stretch, Ticks, ap, append_assoc, arith, cond, curves_between, drop, drop_more, false, fold, get_or, get_or_at, had_at, last_end, length, length-map, length-take-le, map, map-append, max, min, part_at, refl, set, set_at, share_at, stretch_between, stretches_of, sum_by-cons, sym, take, take_more, true, ℕ, [], ◌++◌, ◌+◌, ◌-◌, ◌<◌, ◌==◌, ◌∙◌, ◌∷◌, ◌≡◌, ◌≤◌}
 
 -- ---- one element after another

@@ -1,4 +1,4 @@
--- What curves come to.
+-- The ends of curves.
 use Rattle.lot_curves.proofs.Common.{Bool, Curves, Draws, List, Measure, Stretch, Ticks, ap, arith, cond, false, fold, fold_push, had_at, last_end, le-leb, leb-true, length, length-map-range_with_len, max, nat_le, part_at, refl, sample_count, sample_tick, sample_ticks, share_at, stretches_of, sum_by, sum_by-cons, sum_by-le-sum_by, true, ℕ, [], ⊤, ◌++◌, ◌+◌, ◌==◌, ◌∷◌, ◌≡◌, ◌≤◌}
 
 -- ---- samples

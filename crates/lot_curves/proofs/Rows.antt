@@ -1,4 +1,4 @@
--- What threads have had, one stretch after another.
+-- The sums of threads' ticks and draws, one stretch after another.
 use Rattle.lot_curves.proofs.Common.{Curves, List, Measure, Option, Stretch, ap, arith, cond, ext_get_or, get_or, get_or-map-range_with_len, had_in, length, length-map-range_with_len, map, part_in, range_with_len, row_at, shown_at, stretches_of, sum-filter, sum_by_more, sym, take, ℕ, ◌+◌, ◌<◌, ◌==◌, ◌∙◌, ◌≡◌}
 
 -- what a thread has had of one stretch more

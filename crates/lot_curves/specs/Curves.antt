@@ -17,12 +17,11 @@ use Rattle.lot_curves.specs.OwnTimes.{EndedTurn, own_turns}
 use Rattle.lot_curves.specs.Stretches.{had_at, stretch_of, stretches_of, turn_stretches, whole_of}
 use Rattle.lot_curves.specs.Windows.{had_in}
 
--- What the columns stand for; their names, one for each number of a thread, or of a currency other than base, in
--- ascending order; and the stretches of the turns. If numbers are given again, a column counts the turns of each thread
--- that had its number, or of the threads below each currency that had it. The stretches count their ticks from the
--- origin, the tick at which the curves begin. With a window, the curves show at each tick what is in the window that
--- ends there, and otherwise all up to it. The times of the console's commands count from tick 0; turns of a schedule
--- have none.
+-- The subjects of the columns; their names, one for each number of a thread, or of a currency other than base, in
+-- ascending order; and the stretches of the turns. With `reuse` a column counts the turns of all threads that had its
+-- number, or of the threads below each currency that had it. The stretches count their ticks from the origin, the tick
+-- at which the curves begin. With a window, the curves show at each tick the window that ends there, otherwise all
+-- ticks up to it. The times of the console's commands count from tick 0; turns of a schedule have none.
 pub record Curves : Type 0 where
   pub by : By
   pub names : List (List ℕ)
@@ -48,7 +47,7 @@ abbrev pub name_by : By → State → ℕ → List ℕ
 name_by by.Thread s t = name_in s t
 name_by by.Currency s c = currency_name_in s c
 
--- the numbers that threads have had, or currencies other than base
+-- the numbers given to threads, or to currencies other than base
 abbrev pub numbers_by : By → State → List ℕ
 numbers_by by.Thread s = numbers s.records
 numbers_by by.Currency s = currency_numbers s
@@ -128,11 +127,11 @@ curves_by what program = choose program.duration
 abbrev pub curves_of : Program → Curves
 curves_of program = curves_by by.Thread program
 
--- the ticks or draws up to this tick of the threads that had this number: of one thread, unless numbers are given again
+-- the ticks or draws up to this tick of the threads that had this number: of one thread, unless the kernel has `reuse`
 abbrev pub share_at : Measure → Curves → ℕ → ℕ → ℕ
 share_at measure curves tick thread = had_at measure tick (stretches_of thread curves.stretches)
 
--- the curves with this window, or as they are
+-- the curves with this window, or unchanged without one
 abbrev pub windowed : Option ℕ → Curves → Curves
 windowed None curves = curves
 windowed (Some window) curves = record curves { window = Some window }

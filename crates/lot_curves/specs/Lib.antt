@@ -6,5 +6,5 @@ pub mod Stretches
 pub mod Windows
 -- Each thread's ticks or draws at each sample.
 pub mod Curves
--- The curves of an interval of the time.
+-- The curves of an interval of time.
 pub mod Intervals

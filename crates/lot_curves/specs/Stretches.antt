@@ -39,8 +39,8 @@ currencies_above s answer = filter (ran_below s answer) (currency_numbers s)
 abbrev pub in_column : ℕ → Stretch → Stretch
 in_column n s = record s { thread = n }
 
--- The stretches of a turn made in this state: by thread one. By currency one with number 0, which stands for the turn
--- itself, and one more for each currency that its thread ran below.
+-- The stretches of a turn made in this state. By thread there is one. By currency there is one with number 0, of the
+-- turn itself, and one more for each currency that its thread ran below.
 abbrev pub turn_stretches : By → State → EndedTurn → List Stretch
 turn_stretches by.Thread s turn = stretch_of turn ∷ []
 turn_stretches by.Currency s turn =
@@ -70,7 +70,7 @@ had_at measure tick stretches = sum_by (part_at measure tick) stretches
 abbrev pub stretches_of : ℕ → List Stretch → List Stretch
 stretches_of thread stretches = filter (λ s. s.thread == thread) stretches
 
--- those that stand for each turn once
+-- one stretch for each turn
 abbrev pub whole_of : By → List Stretch → List Stretch
 whole_of by.Thread stretches = stretches
 whole_of by.Currency stretches = stretches_of 0 stretches

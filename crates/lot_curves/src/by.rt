@@ -1,6 +1,6 @@
-//! What the lines of a picture stand for.
+//! The subjects of a picture's lines: threads or currencies.
 
-/// What the lines of a picture stand for. A line and its stretches have the number of their thread or currency.
+/// The subjects of a picture's lines. A line and its stretches have the number of their thread or currency.
 #[derive(Clone, Copy, Debug, PartialEq, Eq)]
 pub enum By {
     /// Threads: a turn has one stretch, that of its thread.

@@ -1,6 +1,6 @@
-//! The ticks and the draws of each thread over time: a column for each number of a thread. If numbers are given again,
-//! a column counts the turns of each thread that had its number, and has the name of the last. By currency there is a
-//! column for each number of a currency other than base, with the ticks of the threads below it.
+//! The ticks and the draws of each thread over time: a column for each number of a thread. With `reuse` a column counts
+//! the turns of all threads that had its number, and has the name of the last. By currency there is a column for each
+//! number of a currency other than base, with the ticks of the threads below it.
 ghost use Rattle.std.specs.Prelude.{◌≡◌, ℕ, ◌+◌, ◌<◌, ◌≤◌, ◌^◌, ◌==◌, All, None, if◌then◌else◌, length, map};
 ghost use Rattle.std.specs.Prelude.{slice_index, vec_len};
 ghost use Rattle.lot_curves.specs.Curves as curves;
@@ -18,17 +18,17 @@ const SAMPLES: u64 = 200;
 /// The columns' names, and the stretches of the turns.
 #[derive(Debug, Drop)]
 pub struct Curves {
-    /// What the columns stand for.
+    /// The subjects of the columns.
     by: By,
     names: Vec<Name>,
     stretches: Vec<Stretch>,
-    /// The tick at which the curves begin. Other ticks count from it.
+    /// The tick at which the curves begin. Other ticks count from it, unless their docs say otherwise.
     origin: u64,
     /// The end of the last stretch.
     last: u64,
-    /// The number of last ticks that are shown at each tick, or none for all.
+    /// The length in ticks of the window that ends at each tick, or `None` for all ticks up to it.
     window: Option<u32>,
-    /// The times of the console's commands, which count from tick 0.
+    /// The times of the console's commands, counted from tick 0.
     commands: Vec<u32>,
 }
 
@@ -84,7 +84,7 @@ impl Curves {
         }
     }
 
-    /// The curves of this interval, or all of them without one. An interval that begins after the last turn begins at
+    /// The curves of this interval, or all of them for `None`. An interval that begins after the last turn begins at
     /// its end instead.
     pub fn within(self, interval: Option<Interval>) -> Curves
         ensures { result ≡ curves_within interval self }
@@ -124,7 +124,7 @@ impl Curves {
         }
     }
 
-    /// The curves with a window of this many ticks, or as they are.
+    /// The curves with a window of this many ticks, or unchanged for `None`.
     pub fn with_window(self, window: Option<u32>) -> Curves
         ensures { result ≡ windowed window self }
     {
@@ -134,15 +134,15 @@ impl Curves {
         }
     }
 
-    /// What the columns stand for.
+    /// The subjects of the columns.
     pub fn by(&self) -> By
         ensures { result ≡ self.now.by }
     {
         self.by
     }
 
-    /// The columns' names, in ascending order of number: each is that of the last thread or currency with the number,
-    /// or the number itself if that was removed.
+    /// The columns' names, in ascending order of number: the name of the last thread or currency with the number, or
+    /// the number itself if that thread or currency was removed or has no name.
     pub fn names(&self) -> &[Name]
         ensures names { result.now ≡ self.now.names }
         ensures few { length self.now.names < 2 ^ 32 }
@@ -158,7 +158,7 @@ impl Curves {
         self.stretches.as_slice()
     }
 
-    /// The tick at which the curves begin. Other ticks count from it.
+    /// The tick at which the curves begin. Other ticks count from it, unless their docs say otherwise.
     pub fn origin(&self) -> u64
         ensures origin { result ≡ self.now.origin }
         ensures early { result + last_end self.now.stretches < 2 ^ 56 }
@@ -166,14 +166,14 @@ impl Curves {
         self.origin
     }
 
-    /// The number of last ticks that are shown at each tick, or none for all.
+    /// The length in ticks of the window that ends at each tick, or `None` for all ticks up to it.
     pub fn window(&self) -> Option<u32>
         ensures { result ≡ self.now.window }
     {
         self.window
     }
 
-    /// The times of the console's commands, which count from tick 0 also if the curves begin later.
+    /// The times of the console's commands, counted from tick 0 even if the curves begin later.
     pub fn commands(&self) -> &[u32]
         ensures { result.now ≡ self.now.commands }
     {
@@ -206,7 +206,7 @@ impl Curves {
     }
 
     /// Fills the row with each column's ticks or draws at this tick, in ascending order of number: all up to the tick,
-    /// or those in the window that ends there.
+    /// or those in the window that ends at it.
     pub fn fill_row(&self, measure: Measure, tick: u64, row: &mut [u64])
         requires { length row.old ≡ length self.now.names }
         ensures { row.new ≡ row_at measure self.now tick }
@@ -218,8 +218,8 @@ impl Curves {
         }
     }
 
-    /// The ticks or draws of all turns at this tick: all up to it, or those in the window that ends there. By currency
-    /// a turn counts once, whatever its thread stood below.
+    /// The ticks or draws of all turns at this tick: all up to it, or those in the window that ends at it. By currency
+    /// a turn counts once, however many currencies its thread stood below.
     pub fn total_at(&self, measure: Measure, tick: u64) -> u64
         ensures { result ≡ curves.total_at measure self.now tick }
     {
@@ -232,7 +232,7 @@ impl Curves {
     }
 }
 
-/// Cuts the stretches to those between two ticks.
+/// Cuts the stretches to the part between two ticks.
 fn cut(stretches: &mut [Stretch], from: u64, to: u64)
     ensures { stretches.new ≡ map (stretch_between from to) stretches.old }
 {

@@ -21,8 +21,8 @@ pub fn samples_reach_the_last()
     ensures last { (last : ℕ) → sample_tick last (sample_count last) ≡ last }
 {}
 
-/// At the last tick a curve is the sum over all turns of the thread with its number, or of each thread that had it if
-/// numbers are given again.
+/// At the last tick a curve is the sum over all turns of the thread with its number, with `reuse` of all threads that
+/// had it.
 pub fn curves_end_at_all()
     ensures ticks { (curves : curves.Curves) (t : ℕ)
         → share_at Ticks curves (last_end curves.stretches) t
@@ -38,14 +38,14 @@ pub fn curves_rise()
         → had_at measure earlier stretches ≤ had_at measure later stretches }
 {}
 
-/// In an interval a curve has the ticks by which the whole curve rises from the interval's beginning on.
+/// In an interval a curve is the rise of the whole curve from the interval's beginning on.
 pub fn intervals_are_differences()
     ensures { (curves : curves.Curves) (from to tick t : ℕ) → from + tick ≤ to
         → share_at Ticks curves from t + share_at Ticks (curves_between from to curves) tick t
         ≡ share_at Ticks curves (from + tick) t }
 {}
 
-/// In a window that ends at a tick a curve has the ticks by which it rises from the window's beginning to the tick. A
+/// In a window that ends at a tick a curve is the rise of the whole curve from the window's beginning to the tick. A
 /// window that begins at tick 0 has all draws up to the tick.
 pub fn windows_are_differences()
     ensures ticks { (stretches : List StretchRecord) (window tick : ℕ)
@@ -55,8 +55,8 @@ pub fn windows_are_differences()
         → had_in Draws (Some window) tick stretches ≡ had_at Draws tick stretches }
 {}
 
-/// By currency a turn counts for each currency that its thread stood below in the state in which it was made: once,
-/// and with all of its ticks. The ticks and draws of all turns are the same as by thread.
+/// By currency a turn counts for each currency that its thread stood below when it was made: once, and with all of its
+/// ticks. The ticks and draws of all turns are the same as by thread.
 pub fn turns_count_for_currencies()
     ensures below { (s : State) (turn : EndedTurn) (c : ℕ) → 1 ≤ c → c < length s.currencies
         → sum_by (λ s. s.ticks) (stretches_of c (turn_stretches by.Currency s turn)) ≡ ticks_below s c turn.answer }
@@ -65,8 +65,8 @@ pub fn turns_count_for_currencies()
         ≡ total_at measure (windowed window (timed_curves_by by.Thread program)) tick }
 {}
 
-/// No two curves have one name, those of removed threads and of threads without a name included, unless the program has
-/// plain names, which may look like numbers; no text has them. Numbers of threads have at most 32 bits.
+/// No two curves have one name, not even those of removed or unnamed threads, unless the program has plain names, which
+/// may look like numbers; no text has them. Numbers of threads have at most 32 bits.
 pub fn names_are_different()
     ensures { (program : Program) (history : List ℕ) (t u : ℕ) → program.limits.plain_names ≡ false
         → t < 2 ^ 32 → u < 2 ^ 32

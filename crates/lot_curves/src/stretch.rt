@@ -17,22 +17,22 @@ pub enum Measure {
     Draws,
 }
 
-/// The ticks and draws of a turn for the thread that ran in it, or that won its draw; or for a currency above it.
+/// The ticks and draws of a turn for its thread, which ran or won the draw; or for a currency above the thread.
 #[derive(Clone, Copy, Debug, PartialEq, Eq)]
 pub struct Stretch {
-    /// The number of the thread, or 0 if the turn belongs to no thread. By currency it is that of a currency, or 0 in
-    /// the stretch that stands for the turn itself.
+    /// The number of the thread, or 0 for a turn without a thread. By currency it is the number of a currency, or 0 in
+    /// the stretch of the turn itself.
     pub thread: u32,
     /// The end of the turn.
     pub end: u64,
-    /// The ticks that the thread ran, up to the end.
+    /// The ticks that the thread ran, up to the end of the turn.
     pub ticks: u32,
-    /// 1 if it won a draw.
+    /// 1 if the thread won a draw, otherwise 0.
     pub draws: u32,
 }
 
 impl Stretch {
-    /// The stretch of a turn that ended at this time and got this reply.
+    /// The stretch of a turn with this reply, which ended at this time.
     pub fn new(end: u64, reply: Reply) -> Stretch
         ensures { (e : Event) → result ≡ stretch_of (record { time = end; answer = Answered e reply }) }
     {
@@ -51,7 +51,7 @@ impl Stretch {
         }
     }
 
-    /// The same stretch with this number.
+    /// The stretch with `number` in place of its own.
     pub fn in_column(self, number: u32) -> Stretch
         ensures { result ≡ in_column number self }
     {
@@ -78,7 +78,8 @@ impl Stretch {
         }
     }
 
-    /// The stretch's ticks or draws in a window of this many ticks that ends at this tick, or all up to it without one.
+    /// The stretch's ticks or draws in the window of this many ticks that ends at this tick, or up to the tick for
+    /// `None`.
     pub fn part_in(self, measure: Measure, window: Option<u32>, tick: u64) -> u64
         ensures part { result ≡ windows.part_in measure window tick self }
         ensures small { result < 2 ^ 32 }
@@ -114,7 +115,7 @@ impl Stretch {
     }
 }
 
-/// The tick at which the window of this many ticks that ends at this tick begins, or the first tick without a window.
+/// The tick at which the window of this many ticks that ends at this tick begins, or the first tick for `None`.
 pub fn start_of(window: Option<u32>, tick: u64) -> u64
     ensures start { result ≡ windows.start_of window tick }
     ensures early { result ≤ tick }
@@ -125,8 +126,8 @@ pub fn start_of(window: Option<u32>, tick: u64) -> u64
     }
 }
 
-/// The sum of these stretches' ticks or draws in a window of this many ticks that ends at this tick, or of all up to it
-/// without one.
+/// The sum of these stretches' ticks or draws in the window of this many ticks that ends at this tick, or up to the
+/// tick for `None`.
 pub fn had_in(measure: Measure, window: Option<u32>, tick: u64, stretches: &[Stretch]) -> u64
     requires { length stretches.now < 2 ^ 32 }
     ensures { result ≡ windows.had_in measure window tick stretches.now }
@@ -138,7 +139,7 @@ pub fn had_in(measure: Measure, window: Option<u32>, tick: u64, stretches: &[Str
     had
 }
 
-/// The same of those of these stretches that have this number.
+/// Like `had_in`, for the stretches with this number.
 pub fn had_by(
     number: u32,
     measure: Measure,

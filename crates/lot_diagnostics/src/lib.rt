@@ -1,8 +1,7 @@
-//! Diagnostics for the author of an input: why it was refused, with the line, the word in question and the
-//! expectation; or the warnings of a run, and why it may show little.
+//! Diagnostics for the author of an input: why it was refused, with the line, the word in question and the expectation;
+//! or the warnings of a run, and why it may show little.
 //!
-//! The proofs show only that they are safe and terminate; the tests of `lot_system_tests` and `lot_command_tests` check
-//! the text.
+//! The proofs show only safety and termination; the tests of `lot_system_tests` and `lot_command_tests` check the text.
 #![tactic(auto)]
 
 mod limit;

@@ -1,12 +1,12 @@
-//! The limit that a command has found used up.
+//! The limit that a command has reached.
 
 use crate::lines::{InputCommand, has_header_line, header_number, is_timed};
-use lot_simulation::{BodyWord, HeaderWord, Range, ranges};
-use lot_system::RefusedCommand;
+use lot_machine::Verb;
+use lot_simulation::{BodyWord, HeaderWord, Range, RefusedCommand, ranges};
 use std::fmt;
 
-/// A limit of the header: its name there, what it limits, and the largest number that an input may give it, which it
-/// has if the input gives none.
+/// A limit of the header: its name there, the things that it limits, and the largest number that an input may give it,
+/// which is also the default.
 #[derive(Clone, Copy)]
 struct Limit {
     name: &'static str,
@@ -33,32 +33,32 @@ const THREADS: Limit = Limit {
 };
 
 impl Limit {
-    /// Its number in this input.
     fn number(self, input: &[u8]) -> u32 {
         header_number(input, HeaderWord::Limits, self.name).unwrap_or(self.range.last)
     }
 }
 
-/// The limit that a command has found used up.
+/// The limit that a command has reached.
 #[derive(Clone, Copy)]
 pub(crate) struct UsedUp {
     limit: Limit,
     number: u32,
-    /// Whether removed ones would no longer count with another header.
+    /// Whether the input could add `reuse`, with which removed ones no longer count.
     could_reuse: bool,
 }
 
 impl UsedUp {
-    /// The limit that this command of the input has found used up, after these refusals.
+    /// The limit that this command of the input has reached, after these refusals.
     pub(crate) fn of(
         input: &[u8],
         command: InputCommand<'_>,
         refused: &[RefusedCommand],
     ) -> UsedUp {
         let limit = match command.word {
-            BodyWord::MakeCurrency => CURRENCIES,
-            BodyWord::MakeThread => THREADS,
-            BodyWord::MakeFunded if has_all_threads(input, command, refused) => THREADS,
+            BodyWord::Command(Verb::MakeCurrency) => CURRENCIES,
+            BodyWord::Command(Verb::MakeThread) => THREADS,
+            BodyWord::Command(Verb::MakeFunded) if has_all_threads(input, command, refused) =>
+                THREADS,
             _ => TICKETS,
         };
         UsedUp {
@@ -69,24 +69,24 @@ impl UsedUp {
     }
 }
 
-/// Whether before this command there are as many threads as can be, after these refusals.
+/// Whether there are as many threads as the limit allows before this command, after these refusals.
 fn has_all_threads(input: &[u8], command: InputCommand<'_>, refused: &[RefusedCommand]) -> bool {
     let place = command.place;
-    let made = count_made(input, place, refused, BodyWord::MakeThread).saturating_add(count_made(
+    let made = count_made(
         input,
         place,
         refused,
-        BodyWord::MakeFunded,
-    ));
+        BodyWord::Command(Verb::MakeThread),
+    ).saturating_add(count_made(input, place, refused, BodyWord::Command(Verb::MakeFunded)));
     let removed = if has_header_line(input, HeaderWord::Reuse) {
-        count_made(input, place, refused, BodyWord::RemoveThread)
+        count_made(input, place, refused, BodyWord::Command(Verb::RemoveThread))
     } else {
         0
     };
     made.saturating_sub(removed) >= THREADS.number(input)
 }
 
-/// The number of commands with this word before the one with this index that weren't refused, where these were.
+/// The number of commands with this word before the one with this index, without the refused ones.
 fn count_made(input: &[u8], place: usize, refused: &[RefusedCommand], word: BodyWord) -> u32 {
     let mut count = InputCommand::count(input, place, word);
     for one in refused {

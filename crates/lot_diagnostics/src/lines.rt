@@ -1,10 +1,10 @@
 //! The lines of an input, read again for diagnostics: their words and names, the scripts and commands that they belong
-//! to, and the texts nearest to a misspelt one.
+//! to, and the texts nearest to a misspelt word.
 //!
-//! The reader of inputs keeps none of this, since few inputs need a diagnostic. Contracts say which form a line has in
-//! an input that is timed or isn't, what a word does to an open script, which place and time a command has, and that
-//! only the same text is at no distance. Of everything else the proofs show only that it is safe and terminates; the
-//! tests of `lot_system_tests` check what the diagnostics make of it.
+//! The parser keeps none of this, since few inputs need a diagnostic. Contracts say which form a line has in a timed
+//! input and in another, how a word changes an open script, which index and time a command has, and that only the same
+//! text has distance 0. Otherwise the proofs show only safety and termination; the tests of `lot_system_tests` check
+//! the diagnostics.
 mod commands;
 mod forms;
 mod header;

@@ -1,17 +1,18 @@
-//! What makes a run of a timed input show less than its author may expect.
+//! Reasons why a run of a timed input shows less than its author may expect.
 
 use crate::lines::{InputCommand, Location, has_header_line, header_number, is_timed};
+use lot_machine::Verb;
 use lot_simulation::{BodyWord, HeaderWord};
 use std::io;
 use std::io::Write;
 
-/// The length of a quantum, if the header doesn't give it.
+/// The default length of a quantum, in ticks.
 const QUANTUM: u32 = 100;
 
-/// What was asked of an input that isn't refused.
+/// The request for an accepted input.
 #[derive(Clone, Copy)]
 pub enum Asked {
-    /// A play that ended at this time if it ended early, of which what comes from a time on is shown.
+    /// A play, with the time of its early end, if it has one, and the time from which its view begins.
     Play {
         ended: Option<u32>,
         from: Option<u64>,
@@ -20,8 +21,8 @@ pub enum Asked {
     Run,
 }
 
-/// Writes what makes a run of the input show less than its author may expect, if something does: it has no turns, it is
-/// shorter than a quantum, or what is shown begins after its end. The input is that of the file with this name or of
+/// Writes the reasons why a run of the input shows less than its author may expect, if there are any: it has no turns,
+/// it is shorter than a quantum, or the view begins after its end. Messages name the input by this file's name, or as
 /// standard input. It fails if the writer does.
 pub fn write_notes<W: Write>(
     writer: &mut W,
@@ -42,7 +43,7 @@ pub fn write_notes<W: Write>(
     }
 }
 
-/// Writes that the input has no thread, if it is timed and has none.
+/// Writes that the input has no thread, if it is timed and has none. It fails if the writer does.
 pub fn write_no_thread<W: Write>(
     writer: &mut W,
     input: &[u8],
@@ -60,11 +61,11 @@ pub fn write_no_thread<W: Write>(
 
 /// Whether the input has a command that makes a thread.
 fn has_thread(input: &[u8]) -> bool {
-    InputCommand::count(input, usize::MAX, BodyWord::MakeThread) > 0
-        || InputCommand::count(input, usize::MAX, BodyWord::MakeFunded) > 0
+    InputCommand::count(input, usize::MAX, BodyWord::Command(Verb::MakeThread)) > 0
+        || InputCommand::count(input, usize::MAX, BodyWord::Command(Verb::MakeFunded)) > 0
 }
 
-/// Writes that the processors make no turns in a run, if the input doesn't say how many.
+/// Writes that the processors make no turns in a free run, if the input gives no number of turns.
 fn write_no_turns<W: Write>(writer: &mut W, input: &[u8], file: Option<&str>) -> io::Result<()> {
     if has_header_line(input, HeaderWord::Turns) {
         return Ok(());
@@ -76,7 +77,7 @@ fn write_no_turns<W: Write>(writer: &mut W, input: &[u8], file: Option<&str>) ->
     )
 }
 
-/// Writes that a run of so many ticks is shorter than a quantum of the input, if it is.
+/// Writes that a run of this many ticks is shorter than the input's quantum, if it is.
 fn write_short<W: Write>(
     writer: &mut W,
     duration: u32,
@@ -94,7 +95,7 @@ fn write_short<W: Write>(
     )
 }
 
-/// Writes that what is shown begins at the end of the run or after it, if it does.
+/// Writes that the view begins at the end of the run or after it, if it does.
 fn write_beginning<W: Write>(
     writer: &mut W,
     end: u32,

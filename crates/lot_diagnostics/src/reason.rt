@@ -2,9 +2,8 @@
 
 use crate::limit::UsedUp;
 use crate::lines::{InputCommand, Named, Nearest, nearest_name};
-use lot_machine::{Refusal, is_good_name};
-use lot_simulation::BodyWord;
-use lot_system::RefusedCommand;
+use lot_machine::{Refusal, Verb, is_good_name};
+use lot_simulation::{BodyWord, RefusedCommand};
 use std::alloc::Global;
 use std::fmt;
 
@@ -12,11 +11,11 @@ use std::fmt;
 #[derive(Clone, Copy)]
 pub(crate) struct Reason<'a> {
     refusal: Refusal,
-    /// The word of the command that is the cause, or no text if no single word is.
+    /// The word of the command at fault, or no text if no single word is.
     word: &'a str,
-    /// The name nearest to it, if it is the name of nothing.
+    /// The name nearest to the word, if nothing has the word as its name.
     nearest: Nearest<'a>,
-    /// The limit that is used up, if one is.
+    /// The limit reached, if one is.
     used_up: Option<UsedUp>,
 }
 
@@ -69,7 +68,7 @@ impl fmt::Display for Reason<'_> {
     }
 }
 
-/// The name of the argument that causes the refusal, if one does.
+/// The name of the argument at fault, if one is.
 fn argument_of(refusal: Refusal) -> Option<&'static str> {
     match refusal {
         Refusal::BadName | Refusal::NameTaken => Some("NAME"),
@@ -83,25 +82,25 @@ fn argument_of(refusal: Refusal) -> Option<&'static str> {
     }
 }
 
-/// The kinds of names that this refusal misses one of, if it misses a name.
+/// The kinds of names among which the word of this refusal is missing, if it is a missing name.
 fn missing_kinds(refusal: Refusal) -> &'static [Named] {
     match refusal {
-        Refusal::NoCurrency => &[Named::ByWord(BodyWord::MakeCurrency)],
+        Refusal::NoCurrency => &[Named::ByWord(BodyWord::Command(Verb::MakeCurrency))],
         Refusal::NoThread => &[
-            Named::ByWord(BodyWord::MakeThread),
-            Named::ByWord(BodyWord::MakeFunded),
+            Named::ByWord(BodyWord::Command(Verb::MakeThread)),
+            Named::ByWord(BodyWord::Command(Verb::MakeFunded)),
         ],
         Refusal::NoTarget => &[
-            Named::ByWord(BodyWord::MakeCurrency),
-            Named::ByWord(BodyWord::MakeThread),
-            Named::ByWord(BodyWord::MakeFunded),
+            Named::ByWord(BodyWord::Command(Verb::MakeCurrency)),
+            Named::ByWord(BodyWord::Command(Verb::MakeThread)),
+            Named::ByWord(BodyWord::Command(Verb::MakeFunded)),
         ],
         Refusal::NoScript => &[Named::ByWord(BodyWord::Script)],
         _ => &[],
     }
 }
 
-/// The name nearest to this word among those of the kind that this refusal misses, if it misses a name.
+/// The name nearest to this word, among those of the kinds where the refusal misses it.
 fn nearest_made<'a>(alloc: Global, input: &'a [u8], refusal: Refusal, word: &str) -> Nearest<'a> {
     let kinds = missing_kinds(refusal);
     if kinds.is_empty() {
@@ -115,7 +114,7 @@ fn nearest_made<'a>(alloc: Global, input: &'a [u8], refusal: Refusal, word: &str
     }
 }
 
-/// The reason in words. The word that is the cause comes after them.
+/// The reason in words. The word at fault comes after them.
 fn text_of(refusal: Refusal) -> &'static str {
     match refusal {
         Refusal::BadName => {

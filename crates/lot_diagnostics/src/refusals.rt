@@ -1,8 +1,8 @@
 //! The reasons why inputs are refused, in words for their authors: the line, the word in question and the expectation.
 //!
-//! A refused input produces one line for programs, which has the line's number and a refusal. These words accompany
-//! it, on standard error. Contracts say of some problems that their lines are never skipped. Of everything else the
-//! proofs show only that it is safe and terminates; the tests of `lot_system_tests` check the text.
+//! For a refused input the output is one line for programs, with the line's number and a refusal. These words go to
+//! standard error. Contracts say of some problems that a caller never skips their lines. Otherwise the proofs show only
+//! safety and termination; the tests of `lot_system_tests` check the text.
 mod explain;
 mod header;
 mod hint;
@@ -22,8 +22,9 @@ use std::alloc::Global;
 use std::io;
 use std::io::Write;
 
-/// Writes the reason why this input, that of the file with this name or of standard input, is refused with this fault,
-/// as one line. It fails if the writer does. If out of memory, it leaves out the suggestion of a nearby word.
+/// Writes the reason why this input is refused with this fault, as one line. The message names the input by this file's
+/// name, or as standard input. It fails if the writer does. If out of memory, it leaves out the suggestion of a nearby
+/// word.
 pub fn write_words<W: Write>(
     alloc: Global,
     writer: &mut W,

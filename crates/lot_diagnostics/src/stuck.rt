@@ -1,9 +1,8 @@
-//! Threads that can never make progress again.
+//! Threads that can never run again.
 
 use crate::lines::{Named, name_numbered};
 use lot_machine::{Name, Status};
-use lot_simulation::BodyWord;
-use lot_system::{Lack, Owner, StuckThread};
+use lot_simulation::{BodyWord, Lack, Owner, StuckThread};
 use std::{fmt, str};
 
 /// A thread, a port or a mutex: its kind and its name, or its number if it has no name.
@@ -73,7 +72,7 @@ impl fmt::Display for Weightless<'_> {
 #[derive(Clone, Copy)]
 pub(crate) struct Waiting<'a> {
     pub(crate) thread: &'a StuckThread,
-    /// The input, which names what it waits for.
+    /// The input, which names the ports and mutexes.
     pub(crate) input: &'a [u8],
 }
 

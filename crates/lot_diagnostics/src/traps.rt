@@ -5,9 +5,8 @@ use crate::lines::{
     row_of, spelling_of, words_of,
 };
 use crate::stuck::Called;
-use lot_machine::TrapRefusal;
-use lot_simulation::{BodyWord, ScriptTrap, ScriptWord};
-use lot_system::RefusedTrap;
+use lot_machine::{ScriptTrap, TrapRefusal, Verb};
+use lot_simulation::{Argument, BodyWord, RefusedTrap, ScriptWord};
 use std::{fmt, str};
 
 /// A word of a script that makes a trap, and the name of its port or mutex, if it has one.
@@ -20,19 +19,10 @@ struct TrapWords<'a> {
 impl<'a> TrapWords<'a> {
     /// The words of the input that make this trap.
     fn of(input: &'a [u8], trap: ScriptTrap) -> TrapWords<'a> {
-        let (word, name) = match trap {
-            ScriptTrap::AtPort(kind, port) => (
-                ScriptWord::AtPort(kind),
-                name_numbered(input, Named::ByWord(BodyWord::Port), port),
-            ),
-            ScriptTrap::OnMutex(kind, mutex) => (
-                ScriptWord::OnMutex(kind),
-                name_numbered(input, Named::ByWord(BodyWord::Mutex), mutex),
-            ),
-            ScriptTrap::Reply => (ScriptWord::Reply, None),
-            ScriptTrap::Yield => (ScriptWord::Yield, None),
-            ScriptTrap::Sleep(_) => (ScriptWord::Sleep, None),
-            ScriptTrap::Exit => (ScriptWord::EndScript, None),
+        let word = ScriptWord::Trap(trap.with((), (), (), ()));
+        let name = match kind_named(word) {
+            Some(kind) => name_numbered(input, Named::ByWord(kind), trap.object()),
+            None => None,
         };
         TrapWords { word, name }
     }
@@ -49,7 +39,7 @@ impl<'a> TrapWords<'a> {
                     return true;
                 }
             } else if let Some((_, keyword, form)) = row_of::<ScriptWord>(word) {
-                if !form.arguments().is_empty() {
+                if form.len() > 0 {
                     unfinished = Some(keyword);
                 } else if keyword == self.word {
                     return true;
@@ -70,6 +60,15 @@ impl fmt::Display for TrapWords<'_> {
     }
 }
 
+/// What the argument of this word names, if it names something.
+fn kind_named(word: ScriptWord) -> Option<BodyWord> {
+    let (_, _, form) = row_of::<ScriptWord>(spelling_of(word))?;
+    match form.argument(0)? {
+        (_, Argument::KnownName(kind)) => Some(kind),
+        _ => None,
+    }
+}
+
 /// The lines of a script with the words of a trap.
 #[derive(Clone, Copy)]
 struct TrapLines<'a> {
@@ -77,7 +76,7 @@ struct TrapLines<'a> {
     script: &'a str,
     /// The first line, from 1.
     first: u32,
-    /// The number of lines after it.
+    /// The number of lines after the first.
     others: u32,
 }
 
@@ -101,7 +100,7 @@ impl<'a> TrapLines<'a> {
         lines
     }
 
-    /// The lines with one more.
+    /// The lines of `lines` and this one.
     fn with(lines: Option<TrapLines<'a>>, script: &'a str, number: u32) -> TrapLines<'a> {
         match lines {
             Some(lines) => TrapLines {
@@ -133,21 +132,24 @@ fn script_of<'a>(input: &'a [u8], thread: &str) -> Option<&'a str> {
 }
 
 /// The words of the commands that make a thread.
-const MAKERS: &[BodyWord] = &[BodyWord::MakeThread, BodyWord::MakeFunded];
+const MAKERS: &[BodyWord] = &[
+    BodyWord::Command(Verb::MakeThread),
+    BodyWord::Command(Verb::MakeFunded),
+];
 
-/// Traps of a thread with the same words that were refused for the same reason.
+/// Refused traps of a thread, by the same words and for the same reason.
 #[derive(Clone, Copy)]
 pub(crate) struct RefusedWords<'a> {
-    /// The name of the file, or none for standard input.
+    /// The name of the file, or `None` for standard input.
     file: Option<&'a str>,
     traps: &'a RefusedTrap,
     words: TrapWords<'a>,
-    /// Their lines, if the input tells the thread's script.
+    /// The lines, if the input tells the thread's script.
     lines: Option<TrapLines<'a>>,
 }
 
 impl<'a> RefusedWords<'a> {
-    /// These traps of an input that was played.
+    /// The words of these traps, in an input that was played.
     pub(crate) fn of(
         input: &'a [u8],
         file: Option<&'a str>,
@@ -200,7 +202,7 @@ impl fmt::Display for RefusedWords<'_> {
     }
 }
 
-/// Writes the words of a trap, and their lines if they are known.
+/// Writes the words of a trap, and their lines if the input tells them.
 fn write_trap_words<W: fmt::Write>(
     f: &mut fmt::Formatter<W>,
     file: Option<&str>,
@@ -220,7 +222,7 @@ fn write_trap_words<W: fmt::Write>(
     }
 }
 
-/// The number of lines after the first that may be meant in its place.
+/// The number of further lines with the same words.
 #[derive(Clone, Copy)]
 struct Others(u32);
 
@@ -234,7 +236,7 @@ impl fmt::Display for Others {
     }
 }
 
-/// How often something happened.
+/// A number of times, in words.
 #[derive(Clone, Copy)]
 struct Times(u64);
 

@@ -1,23 +1,22 @@
-//! Commands that were never made.
+//! Commands that a run never made.
 ghost use Rattle.std.specs.Prelude.{◌≡◌, ◌+◌, ◌-◌, ◌≤◌};
 
 use crate::lines::{InputCommand, Location, header_number};
 use crate::warnings::is_ended_by_refusal;
-use lot_simulation::HeaderWord;
-use lot_system::Warnings;
+use lot_simulation::{HeaderWord, Warnings};
 use std::io::Write;
 use std::{fmt, io};
 
-/// Why commands were never made.
+/// The reason why a run never made commands.
 #[derive(Clone, Copy)]
 enum Cause {
     /// A refusal ended the run.
     Refusal,
-    /// The run was cut.
+    /// The run reached the limit on turns.
     Cut,
     /// The schedule has no more turns of the console.
     Schedule,
-    /// The time of the first, and so of each, is after the end.
+    /// The time of the first of them, and so of each, is after the end.
     Late { time: u32, end: u32 },
 }
 
@@ -35,8 +34,8 @@ impl fmt::Display for Cause {
     }
 }
 
-/// Writes the number of commands never made and why, if there are any: those up to the end of the run, and then those
-/// after it.
+/// Writes the number of commands never made, and why, if there are any: first those due up to the end of the run, then
+/// those due after it.
 pub(crate) fn write_unmade<W: Write>(
     writer: &mut W,
     warnings: &Warnings,
@@ -81,7 +80,7 @@ fn late_command(input: &[u8]) -> Option<(InputCommand<'_>, u32)> {
     Some((InputCommand::after(input, end)?, end))
 }
 
-/// Why commands up to the end of the run were never made.
+/// The reason why the run never made commands due up to its end.
 fn cause_of(warnings: &Warnings) -> Cause {
     if is_ended_by_refusal(warnings) {
         Cause::Refusal
@@ -92,7 +91,7 @@ fn cause_of(warnings: &Warnings) -> Cause {
     }
 }
 
-/// Writes that so many commands, of which this is the first, were never made, and why.
+/// Writes that `count` commands, this one the first, were never made, and why.
 fn write_group<W: Write>(
     writer: &mut W,
     first: Option<InputCommand<'_>>,

@@ -5,14 +5,13 @@ use crate::reason::Reason;
 use crate::stuck::{Waiting, Weightless};
 use crate::traps::RefusedWords;
 use crate::unmade::write_unmade;
-use lot_simulation::EarlyEnd;
-use lot_system::{FirstFew, RefusedTrap, Warnings};
+use lot_simulation::{EarlyEnd, FirstFew, RefusedTrap, Warnings};
 use std::io::Write;
 use std::{fmt, io};
 
 /// Writes the warnings of a run, a line for each: an early end, commands refused or never made, refused traps, and
-/// threads that can never make progress again. The input, that of the file with this name or of standard input, was
-/// accepted; it is read again only for the lines and the names. It fails if the writer does.
+/// threads that can never run again. Messages name the input by this file's name, or as standard input. It was
+/// accepted; this reads it again only for line numbers and names. It fails if the writer does.
 pub fn write_warnings<W: Write>(
     writer: &mut W,
     warnings: &Warnings,
@@ -26,24 +25,24 @@ pub fn write_warnings<W: Write>(
     write_stuck(writer, warnings, input, file)
 }
 
-/// The place of what is said of the whole input.
+/// The location of a message about the whole input.
 fn whole(file: Option<&str>) -> Location<'_> {
     Location { file, line: None }
 }
 
-/// Whether a refusal ended the play that is warned of. Of several plays it is the first, and another may have been
-/// ended in its place.
+/// Whether a refusal ended the play whose warnings these are. Of several plays it is the first; a refusal may have
+/// ended another.
 pub(crate) fn is_ended_by_refusal(warnings: &Warnings) -> bool {
     let has_refused = !warnings.refused.first().is_empty();
     let has_trapped = !warnings.refused_traps.first().is_empty();
     warnings.stopped && (has_refused || has_trapped)
 }
 
-/// What is said if a refusal ended another play than the first.
+/// The message if a refusal ended another play than the first.
 const OTHER_PLAY: &str =
     "a refusal ended a play with another seed than the first: the input is strict";
 
-/// Writes how plays ended before their time, if they did.
+/// Writes how plays ended before their time, if any did.
 fn write_endings<W: Write>(
     writer: &mut W,
     warnings: &Warnings,
@@ -68,7 +67,7 @@ fn write_refused<W: Write>(
 ) -> io::Result<()> {
     let all = warnings.refused.first();
     for refused in all {
-        // An input that was played has each command that its run had.
+        // The input was played, so it has each command of the run.
         if let Some(command) = InputCommand::at(input, refused.place) {
             let alloc = warnings.allocator();
             let reason = Reason::of(alloc, input, command, refused.refusal, all);
@@ -101,7 +100,7 @@ fn write_refused_traps<W: Write>(
     write_others(writer, refused, "traps that were refused", file)
 }
 
-/// Writes the threads that can never make progress again.
+/// Writes the threads that can never run again.
 fn write_stuck<W: Write>(
     writer: &mut W,
     warnings: &Warnings,
@@ -128,7 +127,7 @@ fn write_stuck<W: Write>(
     )
 }
 
-/// Writes the number of those not listed, if there are any.
+/// Writes the number of items not listed, if there are any.
 fn write_others<W: Write, T: Drop>(
     writer: &mut W,
     few: &FirstFew<T>,
@@ -145,7 +144,7 @@ fn write_others<W: Write, T: Drop>(
 #[derive(Clone, Copy)]
 struct Early {
     early: EarlyEnd,
-    /// Whether the run ended by a refusal, as that of a strict input does.
+    /// Whether a refusal ended the run, as one does in a strict input.
     by_refusal: bool,
 }
 

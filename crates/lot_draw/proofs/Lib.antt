@@ -1,4 +1,4 @@
--- Lemmas, in the order in which they stand on each other.
+-- Lemmas, in the order of their dependence.
 pub mod Common
 pub mod Lotteries
 pub mod Ready

@@ -1,4 +1,4 @@
--- Who weighs nothing can be left out of a lottery.
+-- Competitors of weight 0 can be left out of a lottery.
 use Rattle.lot_draw.proofs.Common.{Bool, Competitor, Contains, IfSome, IsSome, List, None, Option, Some, Winner, add_comm, ap, arith, competing_threads, competitor_at, cond, contains-at, contains-filter, drawn_among, eqb-false, eqb-true, false, filter, first_above, get_or, get_or-range_with_len, is_some, length, length-map, ltb-false, ltb-true, map, mod-lt, nat_lt, numbers, refl, running_sums, slice_get-get_or, suc, sum, sum_by-cons, sym, true, weight_among, winner, winner_among, ℕ, [], ◌%◌, ◌+◌, ◌<◌, ◌==◌, ◌∙◌, ◌∷◌, ◌≡◌, ◌≤◌}
 
 module _ (competes : ℕ → Bool) (weight : ℕ → ℕ) (idle : (t : ℕ) → competes t ≡ false → weight t ≡ 0) where

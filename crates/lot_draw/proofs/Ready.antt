@@ -1,4 +1,4 @@
--- Those that compete are the Ready threads.
+-- The competitors are the Ready threads.
 use Rattle.lot_draw.proofs.Common.{AreReady, Bool, Competitor, List, None, Option, Record, Some, ap, arith, at_number, at_number-suc, competing_threads, competitor_at, competitor_of, cond, drawn_among, false, filter, is_ready, is_some, length, map, numbers, option_and_then, option_any, option_map, range_with_len, ready_threads, refl, slice_get_past, status_of, suc, true, weight, weight_among, weight_with, winner, winner_among, zero, ℕ, [], ◌+◌, ◌-◌, ◌∙◌, ◌∷◌, ◌≡◌, ◌≤◌}
 
 -- ---- lists

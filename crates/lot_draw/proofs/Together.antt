@@ -1,4 +1,4 @@
--- Who competes is there, after a change.
+-- After a change the competing threads exist.
 use Rattle.lot_draw.proofs.Common.{AreWeights, CompetesIn, Competitor, IsStale, IsThread, Known, List, Node, None, Option, Queued, Some, Valued, ap, arith, at_number, at_number-suc, cases_lt, competitor_at, get_or-replicate, inl, inr, length, length-replicate, length-set, number-set, option_flatten, refl, replicate, set_number, slice_get, slice_get_past, slice_get_read, subst, suc, sym, zero, ℕ, ◌-◌, ◌<◌, ◌∙◌, ◌≡◌, ◌≤◌, ◌⊎◌}
 use Rattle.lot_draw.proofs.Weighing.{weights-stale}
 

@@ -1,4 +1,4 @@
--- What threads weigh, and how weights stay right.
+-- The weights of threads, which stay right.
 use Rattle.lot_draw.proofs.Common.{All, AreWeights, Bool, CompetesIn, Competitor, Contains, Contains-append_left, Contains-append_right, Contains-push_cases, Currency, IfSome, IsNodeWithin, IsSettled, IsStale, IsThread, Known, LimitedFunding, List, Mutex, Node, None, Option, Queued, Settles, Some, Thread, Valued, add-one, ap, arith, at_number, at_number-suc, cases_eq, competitor_at, contains-nothing, drawn_among, false, get_or, get_or-replicate, get_or-set_at, get_or-set_other, inl, inr, is_some, length, length-replicate, length-set, map, node_place, number-set, numbers, option_flatten, range_with_len, refl, remove, replicate, set, set_number, slice_get, slice_get_read, still-left, subst, suc, sum, sum_by-le, sym, thread_value, value_in, weight_among, weight_with, winner, winner_among, zero, ℕ, [], ◌++◌, ◌+◌, ◌-◌, ◌<◌, ◌^◌, ◌↔◌, ◌∙◌, ◌∷◌, ◌≡◌, ◌≤◌, ◌⊎◌}
 use Rattle.lot_draw.proofs.Lotteries.{same-winner}
 

@@ -1,4 +1,4 @@
--- The queue as the contracts of `RunQueue` see it.
+-- The queue in the contracts of `RunQueue`.
 use Rattle.std.specs.Prelude.{◌≡◌, ℕ, ◌-◌, ◌^◌, ◌<◌, ◌≤◌, Option, Some, List, [], All, Contains, length, slice_index}
 use Rattle.lot_lists.specs.NodeLists.{NodeLists}
 use Rattle.lot_machine.specs.declared.funding.Node.TheVariants.{Thread}
@@ -10,9 +10,8 @@ use Rattle.lot_value.specs.Marking.{IsStaleList as IsOneList}
 use Rattle.lot_draw.specs.declared.competing.Competitor.{Competitor}
 use Rattle.lot_draw.specs.Competing.{HasTicks, weight_among, competitor_at}
 
--- The quantum; for each possible thread, its part in a draw, if it competes, and its weight in the tree; the places
--- of the threads whose weight may have to change, with thread 1 at place 0; and the number of visited places of the
--- tree.
+-- The quantum; for each possible thread, its part in a draw, if it competes, and its weight in the tree; the places of
+-- the threads whose weight may have to change, with thread 1 at place 0; and the number of places visited in the tree.
 pub record Queued : Type 0 where
   pub quantum : ℕ
   pub competitors : List (Option Competitor)

@@ -9,7 +9,7 @@ use std::marker::Model;
 
 /// The modulus of the generator, a prime.
 const MODULUS: u32 = 2147483647;
-/// The number of numbers that two values make.
+/// The count of numbers that two values make.
 const NUMBERS: u128 = 4611686009837453316;
 
 /// The multiplicative generator of Park and Miller (4.1): each value is 16807 times the one before, modulo 2147483647.
@@ -79,7 +79,7 @@ impl ParkMiller {
     }
 }
 
-/// A distinct seed for each processor, so that processors don't draw in lock step: the value of a generator with
+/// A distinct seed for each processor, so that processors don't draw in lock step (4.1): the value of a generator with
 /// multiplier 48271, which starts at 1, after as many steps as the processor's number.
 pub fn mixed_seed(processor: u32) -> u32
     ensures seed { result ≡ lottery.mixed_seed processor }

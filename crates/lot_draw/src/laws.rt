@@ -8,7 +8,7 @@ ghost use Rattle.lot_draw.specs.declared.competing.Competitor.{Competitor};
 ghost use Rattle.lot_draw.specs.Competing.{AreReady, winner_among, drawn_among};
 ghost use Rattle.lot_draw.specs.Queued.{Queued, AreWeights};
 
-/// Competitors of weight 0 can be left out of a lottery: the winner, the number and the total are unchanged.
+/// Leaving competitors of weight 0 out of a lottery changes neither the winner, the number nor the total.
 pub fn who_weighs_nothing_is_left_out()
     ensures { (competes : ℕ → Bool) (weight : ℕ → ℕ) → ((t : ℕ) → competes t ≡ false → weight t ≡ 0)
         → (threads : List ℕ) (d : ℕ)

@@ -6,7 +6,7 @@ ghost use Rattle.lot_machine.specs.Lottery.{running_sums};
 use lot_machine::Drawn;
 
 /// The weight of a value in a processor's draw. A compensation is the number of ticks that a thread had used when it
-/// yielded or blocked, or when its quantum ended late; it scales the value as if a whole quantum were used (3.4,
+/// yielded or blocked, or when its quantum ended late. It scales the value as if the thread used a whole quantum (3.4,
 /// 4.5). A value above 0 weighs at least 1.
 ///
 /// `value` is in base units, `compensation` and `quantum` are in ticks.
@@ -21,7 +21,7 @@ pub fn weight(value: u64, compensation: Option<u32>, quantum: u32) -> u128
     }
 }
 
-/// A value scaled as if a whole quantum were used. Nearly all products fit 64 bits, which divide faster.
+/// A value scaled as if the thread used a whole quantum. Nearly all products fit 64 bits, which divide faster.
 fn compensated(value: u64, quantum: u32, used: u32) -> u128
     requires { 0 < used }
     ensures compensated { result ≡ value * quantum / used }
@@ -33,8 +33,8 @@ fn compensated(value: u64, quantum: u32, used: u32) -> u128
     }
 }
 
-/// Holds a lottery with the number `d` (2, 4.2). Returns `None` if the weights sum to 0, and otherwise the first
-/// place whose running sum is strictly greater than `d` modulo the sum.
+/// Holds a lottery with the number `d` (2, 4.2). Returns `None` if the weights sum to 0, and otherwise the first index
+/// whose running sum is strictly greater than `d` modulo the sum.
 pub fn winner(weights: &[u128], d: u128) -> Option<Drawn>
     requires { sum weights.now < 2 ^ 128 }
     ensures drawn { result ≡ lottery.winner weights.now d }
@@ -52,8 +52,8 @@ pub fn winner(weights: &[u128], d: u128) -> Option<Drawn>
     })
 }
 
-/// The number modulo the total. Most numbers and totals fit 64 bits, which divide faster, and a number below the
-/// total is returned unchanged.
+/// The number modulo the total. Most numbers and totals fit 64 bits, which divide faster. A number below the total
+/// needs no division.
 pub(crate) fn reduced(d: u128, total: u128) -> u128
     requires { 0 < total }
     ensures { result ≡ d % total }
@@ -67,7 +67,7 @@ pub(crate) fn reduced(d: u128, total: u128) -> u128
     }
 }
 
-/// The first place whose running sum is strictly greater than `number`, or the number of places if there is none.
+/// The first index whose running sum is strictly greater than `number`, or the number of weights if there is none.
 fn first_above(weights: &[u128], number: u128) -> usize
     requires { sum weights.now < 2 ^ 128 }
     ensures place { result ≡ lottery.first_above number (running_sums 0 weights.now) }

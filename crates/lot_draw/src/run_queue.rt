@@ -25,16 +25,16 @@ use std::alloc::{AllocError, Global};
 use std::marker::Model;
 use std::mem::size_of;
 
-// The only list: of the changed threads.
+// The only list: the changed threads.
 const CHANGED: usize = 0;
 
-// The memory for one thread's part in a draw.
+// The bytes of one thread's part in a draw.
 const COMPETITOR_BYTES: u64 = size_of::<Option<Competitor>>() as u64;
 
-/// The competitors, their weights, and the number of visited places of the tree of weights.
+/// The competitors, their weights, and the number of places visited in the tree of weights.
 ///
-/// Only a draw writes to the tree of weights. A thread whose weight may have to change before the next draw is
-/// listed.
+/// Only a draw writes to the tree of weights. A list has the threads whose weight may have to change before the next
+/// draw.
 pub struct RunQueue {
     tree: SumTree,
     changed: Lists,
@@ -74,7 +74,7 @@ impl Model for RunQueue {
 }
 
 impl RunQueue {
-    /// A queue without competitors, whose count of visits is 0.
+    /// A queue without competitors, whose count of visits is 0. It fails only if out of memory.
     pub fn new(alloc: Global, limits: &Limits) -> Result<Self, AllocError>
         ensures queue { IfOk result (λ made. made
             ≡ record {
@@ -96,7 +96,7 @@ impl RunQueue {
         })
     }
 
-    /// The total of bytes that `new` requests from the allocator.
+    /// The number of bytes that `new` requests from the allocator.
     pub fn bytes(limits: &Limits) -> u64
         ensures { result ≡ 56 * limits.now.threads + 8 }
     {
@@ -104,7 +104,7 @@ impl RunQueue {
         SumTree::bytes(threads) + Lists::bytes(1, threads) + COMPETITOR_BYTES * threads as u64
     }
 
-    /// The bytes that it has room for: those that `new` requested, whatever has happened since.
+    /// The capacity in bytes: always exactly what `new` requested.
     pub fn held(&self) -> u64
         ensures { result ≡ 56 * length self.now.competitors + 8 }
     {
@@ -118,14 +118,14 @@ impl RunQueue {
         self.quantum
     }
 
-    /// The number of visited places of the tree of weights. The count saturates at the largest `u64`.
+    /// The number of places visited in the tree of weights. The count saturates at the largest `u64`.
     pub fn visits(&self) -> u64
         ensures { result ≡ self.now.visits }
     {
         self.visits
     }
 
-    /// Sets a thread's part in draws from now on; `None` if it doesn't compete. Its weight is set at the next draw.
+    /// Sets a thread's part in draws from now on; `None` if it doesn't compete. The next draw sets its weight.
     pub fn set_competitor(&mut self, thread: u32, competitor: Option<Competitor>)
         requires thread { IsPlaced self.old thread }
         requires ticks { HasTicks competitor }
@@ -142,8 +142,8 @@ impl RunQueue {
         self.list(place);
     }
 
-    /// Recomputes the values of all stale nodes, as `ValuedGraph::settle` does. The weights of the threads among them
-    /// are set at the next draw.
+    /// Recomputes the values of all stale nodes, like `ValuedGraph::settle`. The next draw sets the weights of the
+    /// threads among them.
     pub fn settle(&mut self, graph: &mut ValuedGraph)
         requires places { length self.old.competitors ≡ graph.old.now.thread_limit }
         requires weights { AreWeights self.old graph.old.known }

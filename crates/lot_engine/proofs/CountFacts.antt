@@ -1,4 +1,4 @@
--- What is counted with one turn more.
+-- The counts with one turn more.
 use Rattle.lot_engine.proofs.Common.{ActorTurn, Answered, AreCounts, Bool, Counts, Event, IsCount, IsSmall, List, Program, Reply, TurnAnswer, World, ap, arith, beside, cond, count_in, counted, counted_with, eq-eqb, false, idles_in, length, length-append, ne_eqb, opening_world, quanta_in, refl, subst, sum_by_push, sym, system_after, system_answers, system_run, system_turn, ticks_in, true, turns_made, turns_of, ℕ, [], ◌++◌, ◌+◌, ◌==◌, ◌∙◌, ◌∷◌, ◌≡◌, ◌≢◌, ◌≤◌}
 
 -- ---- turns made

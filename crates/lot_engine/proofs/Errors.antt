@@ -1,4 +1,4 @@
--- What an error leaves to prove, and what a refused test says.
+-- The remaining goals of an error, and the meaning of a failed test.
 use Rattle.lot_engine.proofs.Common.{Err, IfOk, IsErr, Ok, Result, arith, suc, zero, ℕ, ◌<◌, ◌≤◌}
 
 -- nothing, of what is said of a success

@@ -1,4 +1,4 @@
--- A thread that has no row isn't live.
+-- A thread without a row isn't live.
 use Rattle.lot_engine.proofs.Common.{Dead, IsInOrder, None, Option, Record, Some, State, Thread, ap, arith, at_number, at_number-map, false, get_or, is_live, is_live_status, length, live_of, number-some, number-within, option_and_then, option_any, option_flatten, option_map, refl, row_of_thread, sym, thread_row, ℕ, ◌-◌, ◌∙◌, ◌≡◌}
 
 -- one that was never made has no record, and one that was removed is dead

@@ -1,4 +1,4 @@
--- What the kept bytes of a history stand for.
+-- The history that its stored bytes represent.
 use Rattle.lot_engine.proofs.Common.{All, All-tail, List, None, Some, actors_from, ap, ap₂, arith, cases_lt, cond, cond-false, cond-true, cons_option, count_by, drop, get_or, inl, inr, le-ltb, length, lt-ltb, ltb, map, min, min-eq_left, min-eq_right, refl, suc, sum_by-cons, sym, woken_in, ℕ, [], ◌++◌, ◌+◌, ◌-◌, ◌<◌, ◌∙◌, ◌∷◌, ◌≡◌, ◌≤◌}
 
 -- The first actor is a processor's or the console's, or else it is the timer's.

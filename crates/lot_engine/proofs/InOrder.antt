@@ -1,4 +1,4 @@
--- The state that a history leads to is in order.
+-- A history leads to a state in order.
 use Rattle.lot_engine.proofs.Common.{Bool, Command, IsInOrder, IsWithinBounds, List, Program, TurnMade, World, actor_event, cond, console_turn, false, next_name, opening-order, opening_world, processor_turn, resolved, step-order, system_after, system_run, system_turn, true, ℕ, [], ◌==◌, ◌∷◌}
 use Rattle.lot_machine.specs.declared.event.Event.TheVariants as event
 

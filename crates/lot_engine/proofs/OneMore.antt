@@ -1,4 +1,4 @@
--- What holds of a system's fields, with one turn more.
+-- A system's fields with one turn more.
 use Rattle.lot_engine.proofs.Common.{Answered, AreCounts, Bool, Counts, Event, HistorySize, IsCount, IsHeld, IsLegal, IsLegalInTime, IsProgram, IsSmall, List, Place, Program, Reply, State, ap, arith, count_by, counted_with, false, is_some, length, refl, step, sym, system_run, system_turn, true, turns_made, ℕ, [], ◌++◌, ◌+◌, ◌<◌, ◌==◌, ◌∙◌, ◌∷◌, ◌≡◌, ◌≤◌}
 use Rattle.lot_machine.specs.declared.event.Event.TheVariants as event
 use Rattle.lot_engine.proofs.CountFacts.{each-after, each-other, total-after}

@@ -1,4 +1,4 @@
--- Where the threads are in their scripts, one of them changed or one more.
+-- The threads' places in their scripts, with one changed or one more.
 use Rattle.lot_engine.proofs.Common.{AreAt, Context, IfSome, IsAt, IsBetween, IsNext, List, MakesNone, None, OneMore, Option, Place, Program, Some, State, Thread, ap, arith, at_number, at_number-suc, contexts_with, delivered_to, delivered_to_place, first_place, free_threads, get_or, get_or-set_same, inl, inr, length, length-append, length-set, new_context, number-some, option_flatten, option_map, place-set_same, place_of, placed, refl, script_in, script_lines, set-get_or, set-set, set_number, slice_get, slice_get-get_or, slice_set, some-injective, start, subst, suc, sym, thread_at, unwrap_or, unwrap_or-slice_get, zero, ℕ, [], ◌++◌, ◌+◌, ◌-◌, ◌<◌, ◌∙◌, ◌∷◌, ◌≡◌, ◌≤◌, ◌⊎◌}
 
 -- the element with a number stands at the place before it

@@ -1,4 +1,4 @@
--- Whom a reply names.
+-- The threads that replies name.
 use Rattle.lot_engine.proofs.Common.{Action, BadAmount, BadName, Bool, Command, Drawn, Full, IsBetween, IsInOrder, Kill, List, MakeFunded, MakeThread, MakesNone, MakesThread, NameTaken, NoCurrency, NoScript, None, OfDraw, OfRun, OneMore, Option, Program, Record, Refusal, RemoveThread, Some, State, Status, Step, Thread, World, all-pass, ap, are_threads_full, are_tickets_full, arith, at_number-suc, command_effect, command_refusal, command_step, cond, contains-at, contexts_after_command, contexts_with, currency_meant, draw, drawn-numbered, eqb-false, event_effect, event_refusal, false, free_threads, inl, inr, is_bad_amount, is_no_script, is_none, is_none_free, is_taken, is_thread_name, killed-length, leb-false, length, length-append, length-set, ltb-false, map, nat_le, nat_lt, new_context, newborn, next_thread, not, option_map, or_parts, placed, ready_threads, refl, script_in, slice_get, slice_get_within, status_of, step, suc, sym, thread_at, thread_given, thread_meant, thread_there, true, unless_refused, unwrap_or, weight_of, winner, with_thread, zero, ℕ, [], ◌&&◌, ◌<◌, ◌==◌, ◌||◌, ◌∙◌, ◌∷◌, ◌≡◌}
 use Rattle.lot_machine.specs.declared.event.Event.TheVariants as event
 use Rattle.lot_engine.proofs.PlaceFacts.{number-placed}

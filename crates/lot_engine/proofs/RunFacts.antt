@@ -1,4 +1,4 @@
--- The slice of the thread on a processor is never refused, and leaves its place where it moved on.
+-- The slice of the thread on a processor is never refused, and leaves the thread at its end.
 use Rattle.lot_engine.proofs.Common.{Action, Answered, Bool, Context, Done, Event, IfSome, IsAt, IsBetween, IsHeld, IsSlice, IsSliceOf, IsWork, IsWorkIn, List, None, OfRun, Option, Parts, Place, Program, Refusal, Reply, Running, ScriptLine, ScriptTrap, Sizes, Slice, Some, State, Step, Thread, Work, World, action_of, ap, arith, at_number, context_at, context_of, did, event_done, event_effect, event_given, event_refusal, false, first_place, get_or, if◌then◌else◌, is_mark, is_some, le-ltb, length, length-set, ltb-true, min, nat_lt, ne_eqb, number_delivered, number_from, option_and_then, option_map, place_of, places_after, places_received, prefix_len, refl, script_lines, seed_from, set_number, sleeper_by, sleeper_on, slice, slice_between, slice_on, step, subst, sym, system_turn, takes_number, thread_at, thread_there, true, unless_refused, unwrap_or, used_there, work_at, ℕ, [], ◌+◌, ◌-◌, ◌<◌, ◌==◌, ◌∙◌, ◌≡◌}
 use Rattle.lot_machine.specs.declared.event.Event.TheVariants as event
 use Rattle.lot_machine.specs.declared.reply.Reply.TheVariants as reply
@@ -37,6 +37,7 @@ runs-names t (reply.Currency n) runs = absurd runs
 runs-names t (reply.Thread n) runs = absurd runs
 runs-names t (reply.Funded ticket n) runs = absurd runs
 runs-names t reply.Done runs = absurd runs
+runs-names t (reply.Killed n) runs = absurd runs
 runs-names t (reply.List kind) runs = absurd runs
 
 -- a slice that ends with a trap leaves a tick of its budget for it
@@ -98,6 +99,7 @@ received-after places t given (reply.Currency n) within runs = absurd runs
 received-after places t given (reply.Thread n) within runs = absurd runs
 received-after places t given (reply.Funded ticket n) within runs = absurd runs
 received-after places t given reply.Done within runs = absurd runs
+received-after places t given (reply.Killed n) within runs = absurd runs
 received-after places t given (reply.List kind) within runs = absurd runs
 
 -- ---- the thread that runs

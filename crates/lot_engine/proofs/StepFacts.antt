@@ -1,4 +1,4 @@
--- What an event of a processor leaves as it is: who the threads are, how many, and the sizes.
+-- An event of a processor leaves the names and scripts of threads, their number, and the sizes.
 use Rattle.lot_engine.proofs.Common.{Action, Event, KeepsThreads, Some, State, processor_of, refl, step, step-sizes, ℕ, ◌≡◌}
 use Rattle.lot_machine.specs.declared.event.Event.TheVariants as event
 

@@ -1,4 +1,4 @@
--- What a system holds after a turn is what the world comes to.
+-- The fields of a system after a turn represent the world after it.
 use Rattle.lot_engine.proofs.Common.{All-push, Answered, AreAt, Bool, Command, Context, Dead, Event, IfSome, IsAt, IsBetween, IsHeld, IsInOrder, IsKept, IsLegal, IsLegalInTime, IsScript, IsSlice, IsSliceOf, IsWithinBounds, IsWork, IsWorkIn, KeepsThreads, List, MakesIn, MakesThread, Matches, None, OfDraw, OfGiven, OfRun, Option, Parts, Place, Program, Record, Reply, ScriptTrap, Sizes, Some, State, Thread, Threads, Work, World, action_of, ap, arith, at_number, command_step, command_turn, console_turn, context_at, context_of, contexts_after, contexts_after_command, contexts_with, count_by, delivered_to, delivered_to_place, done_of, drop, drop-cons, drop-drop, drop_of_length-le, event_given, event_of_slice, false, first_place, found-runs, free_threads, generator_of, get_or, get_or_from_slice_get, if◌then◌else◌, inl, inr, is_some, le-leb, length, length-append, length-placed, length-set, ltb-false, ltb-true, nat_lt, ne_eqb, newborn, next_name, number-some, number_delivered, number_from, number_of, option_flatten, option_map, place_of, placed, places_after, processor_event, processor_turn, refl, resolved, script_lines, seed_from, set_number, slice, slice_get, slice_on, status_of, step, subst, suc, sum_by_push, sym, system_run, system_turn, takes_number, thread_at, thread_given, thread_on, thread_there, tickets_after, true, unwrap_or, used_by, used_there, ℕ, [], ◌++◌, ◌+◌, ◌-◌, ◌<◌, ◌==◌, ◌↔◌, ◌∙◌, ◌∷◌, ◌≡◌, ◌≤◌, ◌⊎◌}
 use Rattle.lot_machine.specs.declared.record.Status.TheVariants.{Running}
 use Rattle.lot_machine.specs.declared.command.Command.TheVariants.{List as Listing}
@@ -221,6 +221,7 @@ module _ (program : Program) (w : World) (p : ℕ) (threads : List (Option Threa
   draw-follows (reply.Thread n) of = absurd of
   draw-follows (reply.Funded ticket n) of = absurd of
   draw-follows reply.Done of = absurd of
+  draw-follows (reply.Killed n) of = absurd of
   draw-follows (reply.List kind) of = absurd of
   draw-follows (reply.Expired t ticks) of = absurd of
   draw-follows (reply.Trapped t ticks outcome ends) of = absurd of
@@ -256,6 +257,7 @@ module _ (program : Program) (w : World) (p : ℕ) (threads : List (Option Threa
     slice-follows (reply.Thread n) names = absurd names
     slice-follows (reply.Funded ticket n) names = absurd names
     slice-follows reply.Done names = absurd names
+    slice-follows (reply.Killed n) names = absurd names
     slice-follows (reply.List kind) names = absurd names
 
 module _ (program : Program) (w : World) (s : State) (places : List Place) (seeds tickets : List ℕ) (spent : ℕ) (held : IsHeld program w s places seeds tickets spent) (p : ℕ) (some : 0 < p) (few : p ≤ program.limits.processors) where

@@ -1,4 +1,4 @@
--- An actor has one work.
+-- An actor has exactly one work.
 use Rattle.lot_engine.proofs.Common.{Fits, IsFresh, IsWork, IsWorkOf, Matches, None, Option, Parts, Place, Program, Seen, Some, Thread, Work, World, ap, context_at, context_of, one-place, option_map, refl, script_lines, subst, sym, thread_at, world_of, ℕ, ◌∙◌, ◌≡◌}
 
 -- the work with these parts

@@ -8,7 +8,7 @@ use Rattle.lot_engine.specs.declared.counts.Counts.{Counts}
 abbrev pub counted : List ActorTurn → Counts
 counted turns = record { turns = length turns; quanta = total_of quanta_in turns; idles = total_of idles_in turns; ticks = total_of ticks_in turns }
 
--- the counters with one more turn, which got this reply
+-- the counters with one more turn, with this reply
 abbrev pub counted_with : Counts → Reply → Counts
 counted_with counts r = record { turns = counts.turns + 1; quanta = counts.quanta + quanta_in r; idles = counts.idles + idles_in r; ticks = counts.ticks + ticks_in r }
 

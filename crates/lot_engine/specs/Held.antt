@@ -1,4 +1,4 @@
--- The representation of the history's world in the fields of a system.
+-- The history's world in the fields of a system.
 use Rattle.std.specs.Prelude.{◌≡◌, ℕ, ◌≤◌, ⊤, Option, IfSome, List, [], ◌∷◌, length, drop, is_some, unwrap_or}
 use Rattle.lot_simulation.specs.declared.script.ScriptLine.{ScriptLine}
 use Rattle.lot_machine.specs.declared.record.Thread.{Thread}
@@ -19,7 +19,7 @@ pub record IsAt (program : Program) (thread : Thread) (place : Place) (context :
   pub fits : Fits (script_lines program thread.script) place
   pub means : context_at (script_lines program thread.script) place ≡ context
 
--- Each thread's place in its script stands for its context; a removed thread may have any place.
+-- Each thread's place in its script stands for its context. A removed thread may have any place.
 abbrev pub AreAt : Program → List (Option Thread) → List Place → List Context → Type 0
 AreAt program [] [] [] = ⊤
 AreAt program (thread ∷ threads) (place ∷ places) (context ∷ contexts) = IfSome thread (λ there. IsAt program there place context) × AreAt program threads places contexts
@@ -31,8 +31,8 @@ pub record IsKept (program : Program) (s : State) : Type 0 where
   pub records : length s.records ≡ length s.threads
   pub count : length s.threads ≤ s.limits.threads
 
--- The kernel's state, the threads' places, the generators' values, the tickets with names and the number of commands
--- made are those of the world, which draws wide numbers if the program has a duration.
+-- The kernel's state, the threads' places, the generators' values, the named tickets and the number of commands made
+-- are those of the world, which draws wide numbers if the program has a duration.
 pub record IsHeld (program : Program) (w : World) (s : State) (places : List Place) (generators tickets : List ℕ) (spent : ℕ) : Type 0 where
   pub state : s ≡ w.state
   pub kept : IsKept program s

@@ -1,8 +1,8 @@
--- The history of a system as it is kept.
+-- The stored history of a system.
 use Rattle.std.specs.List.{filter_map}
 use Rattle.std.specs.Prelude.{◌≡◌, ℕ, ◌+◌, ◌-◌, ◌<◌, ◌≤◌, Bool, true, List, [], ◌∷◌, All, cond, nat_lt, count_by, drop, length, slice_index_or, Some, None}
 
--- the number of processors, and for how many turns and wakes there is room
+-- the number of processors, and the room for turns and for wakes
 pub record HistorySize : Type 0 where
   pub processors : ℕ
   pub turns : ℕ
@@ -13,13 +13,13 @@ pub record KeptHistory : Type 0 where
   pub items : List ℕ
   pub size : HistorySize
 
--- the actors that bytes stand for: one above the processors is the timer's, which wakes the next of the woken threads
+-- the actors of these bytes: one above the processors is the timer, which wakes the next of the woken threads
 abbrev pub actors_from : ℕ → List ℕ → List ℕ → List ℕ
 actors_from p [] woken = []
 actors_from p (actor ∷ rest) woken =
     cond (nat_lt p actor) ((p + slice_index_or woken 0 0) ∷ actors_from p rest (drop 1 woken)) (actor ∷ actors_from p rest woken)
 
--- the threads that the timer's turns wake among these, with p processors
+-- the threads that the timer wakes in these turns, with p processors
 abbrev pub woken_in : ℕ → List ℕ → List ℕ
 woken_in p actors = filter_map (λ actor. cond (nat_lt p actor) (Some (actor - p)) None) actors
 

@@ -1,4 +1,4 @@
--- A system as its contracts see it.
+-- Systems in contracts.
 use Rattle.std.specs.Prelude.{◌≡◌, ℕ, ◌+◌, ◌==◌, Bool, true, List, [], ◌∷◌, ◌++◌, count_by, is_some, length, map, min}
 use Rattle.lot_machine.specs.declared.command.Kind.{Kind}
 use Rattle.lot_machine.specs.declared.command.Kind.TheVariants.{Tickets, Currencies, Threads}
@@ -6,7 +6,7 @@ use Rattle.lot_machine.specs.Rows.{thread_row}
 use Rattle.lot_machine.specs.State.{State}
 use Rattle.lot_simulation.specs.World.{Program, World, system_run}
 
--- a system's program, its room for turns, and whether a timer takes part: in a timed play
+-- a system's program, its room for turns, and whether a timer takes part, as in a timed play
 pub record Setting : Type 0 where
   pub program : Program
   pub room : ℕ
@@ -21,7 +21,7 @@ pub record Seen : Type 0 where
 abbrev pub world_of : Seen → World
 world_of seen = system_run seen.setting.program seen.history
 
--- a system's history as it is printed: the timer is the actor after the processors, whichever thread it wakes
+-- a system's history in print: the timer is the actor after the processors, whichever thread it wakes
 abbrev pub shown_history : Seen → List ℕ
 shown_history seen = map (λ actor. min actor (seen.setting.program.limits.processors + 1)) seen.history
 
@@ -37,7 +37,7 @@ timer_for setting t = setting.program.limits.processors + t
 abbrev pub after_turn : Seen → ℕ → Seen
 after_turn seen actor = record { setting = seen.setting; history = seen.history ++ actor ∷ [] }
 
--- how many numbers of tickets, currencies or threads have been given
+-- the count of numbers given to tickets, currencies or threads
 abbrev pub given_count : State → Kind → ℕ
 given_count s Tickets = length s.tickets
 given_count s Currencies = length s.currencies

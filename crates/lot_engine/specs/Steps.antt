@@ -10,9 +10,8 @@ use Rattle.lot_machine.specs.Bounds.{IsBetween}
 use Rattle.lot_machine.specs.Named.{thread_given}
 use Rattle.lot_machine.specs.Numbered.{at_number, set_number}
 use Rattle.lot_simulation.specs.declared.script.ScriptLine.{ScriptLine}
-use Rattle.lot_simulation.specs.declared.script.ScriptTrap.{ScriptTrap}
-use Rattle.lot_simulation.specs.declared.script.ScriptTrap.TheVariants as script_trap
-use Rattle.lot_simulation.specs.declared.script.MutexTrap.TheVariants.{Unlock}
+use Rattle.lot_machine.specs.Actions.{ScriptTrap}
+use Rattle.lot_machine.specs.declared.trap.Trap.TheVariants as script_trap
 use Rattle.lot_simulation.specs.Script.{Context, Slice}
 use Rattle.lot_machine.specs.Places.{next_place, placed}
 use Rattle.lot_machine.specs.State.{State, free_threads, thread_at}
@@ -35,8 +34,8 @@ pub record MakesNone (s after : State) : Type 0 where
   pub records : length after.records ≡ length s.records
   pub limits : after.limits ≡ s.limits
 
--- one more element of the list has this number: that of the first of these free places, each of which is within the
--- list, or the next one
+-- One more element of the list has this number: the first of these free places, each of which is within the list, or
+-- the next number if none is free.
 pub record IsNext {A : Type 0} (xs : List A) (free : List ℕ) (n : ℕ) : Type 0 where
   pub number : n ≡ next_place xs free + 1
   pub within : (place : ℕ) → slice_get free 0 ≡ Some place → place < length xs
@@ -105,7 +104,7 @@ event_given p drawn (Some given) = event_of_slice p drawn (done_of given)
 
 -- whether the trap unlocks a mutex
 abbrev pub unlocks : Option ScriptTrap → Bool
-unlocks (Some (script_trap.OnMutex Unlock mutex)) = true
+unlocks (Some (script_trap.Unlock mutex drawn)) = true
 unlocks other = false
 
 -- whether the event consumes a drawn number: a draw does, and a slice that unlocks

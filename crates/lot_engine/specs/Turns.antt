@@ -69,20 +69,20 @@ IsEnded seen actor = (actor ≡ 0) × ((world_of seen).commands ≡ [])
 
 -- ---- turns
 
--- The turn is made: its slice is fresh, it isn't the console's after its last command, and there is room.
+-- The system makes the turn: its slice is fresh, it isn't the console's after its last command, and there is room.
 pub record Goes (seen : Seen) (actor : ℕ) (given : Option Parts) : Type 0 where
   pub fresh : IsFresh seen actor given
   pub not_ended : ¬ IsEnded seen actor
   pub room : length seen.history < seen.setting.room
 
--- The reason why a turn isn't made, checked in this order: the slice isn't that of the work, which the fault carries;
--- no command remains; or there is no room.
+-- The reason why the system doesn't make a turn, checked in this order: the slice isn't that of the work, which the
+-- fault carries; no command remains; or there is no room.
 abbrev pub Faults : Seen → ℕ → Option Parts → TurnFault → Type 0
 Faults seen actor given (Stale work) = IsWorkOf seen actor work × ¬ Matches seen.setting.program work given
 Faults seen actor given Ended = IsFresh seen actor given × IsEnded seen actor
 Faults seen actor given HistoryFull = IsFresh seen actor given × (¬ IsEnded seen actor) × (seen.setting.room ≤ length seen.history)
 
--- the reason why a turn isn't made, as in `Faults`, without the work
+-- the reason why the system doesn't make a turn, as in `Faults`, without the work
 abbrev pub Prevents : Seen → ℕ → Option Parts → TurnFaultKind → Type 0
 Prevents seen actor given kinds.Stale = ¬ IsFresh seen actor given
 Prevents seen actor given kinds.Ended = IsFresh seen actor given × IsEnded seen actor

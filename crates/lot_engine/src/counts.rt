@@ -9,21 +9,21 @@ use lot_kept::Kept;
 use lot_machine::Reply;
 use std::alloc::{AllocError, Global};
 
-/// Counters over some turns.
+/// Counters over turns.
 #[derive(Clone, Copy, Debug, PartialEq, Eq)]
 pub struct Counts {
     /// The number of turns, refused commands and traps included.
     pub turns: u64,
-    /// The draws that a thread won.
+    /// The draws with a winner.
     pub quanta: u64,
-    /// The draws that no thread won.
+    /// The draws without a winner.
     pub idles: u64,
     /// The ticks of expiries and traps.
     pub ticks: u64,
 }
 
 impl Counts {
-    /// The counters over no turns.
+    /// Counters over no turns.
     pub(crate) const NONE: Counts = Counts {
         turns: 0,
         quanta: 0,
@@ -31,7 +31,7 @@ impl Counts {
         ticks: 0,
     };
 
-    /// Counts one more turn, which got this reply.
+    /// Counts one more turn, with this reply.
     #[inline(always)]
     pub(crate) fn add_turn(&mut self, reply: Reply)
         requires { (n : ℕ) × (n < 4294967295) × IsSmall n self.old }
@@ -49,7 +49,7 @@ impl Counts {
         }
     }
 
-    /// Counts one more turn, which got this reply, here and in the total. The reply is matched once for both.
+    /// Counts one more turn, with this reply, here and in the total. It matches the reply once for both.
     #[inline(always)]
     fn add_turn_to_both(&mut self, total: &mut Counts, reply: Reply)
         requires own { (n : ℕ) × (n < 4294967295) × IsSmall n self.old }
@@ -79,7 +79,7 @@ impl Counts {
     }
 }
 
-/// The counters of this many actors without turns.
+/// The counters of this many actors, before any turn.
 pub(crate) fn no_counts(alloc: Global, actors: usize) -> Result<Kept<Counts>, AllocError>
     ensures none { IfOk result (λ counts. AreCounts [] 0 counts.items) }
     ensures count { IfOk result (λ counts. length counts.items ≡ actors) }
@@ -87,7 +87,7 @@ pub(crate) fn no_counts(alloc: Global, actors: usize) -> Result<Kept<Counts>, Al
     Kept::filled(alloc, Counts::NONE, actors)
 }
 
-/// Counts an actor's turn that got this reply, among the actor's turns and in the total.
+/// Counts an actor's turn, with this reply, in the actor's counters and in the total.
 #[inline(always)]
 pub(crate) fn count_turn(counts: &mut Kept<Counts>, total: &mut Counts, actor: u32, reply: Reply)
     requires there { actor < length counts.old.items }

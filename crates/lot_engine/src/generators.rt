@@ -36,7 +36,7 @@ struct NextNumber {
     after: ParkMiller,
 }
 
-/// A processor's next number, wide or not. It doesn't advance the generator.
+/// A processor's next number, wide or not, and its generator after it. It doesn't advance the generator.
 #[inline(always)]
 fn next_number(generators: &[ParkMiller], processor: u32, is_wide: bool) -> NextNumber
     requires { IsBetween 1 (length generators.now) processor }
@@ -52,8 +52,8 @@ fn next_number(generators: &[ParkMiller], processor: u32, is_wide: bool) -> Next
     NextNumber { number, after }
 }
 
-/// Stores in `event` the event of a processor's turn with this slice's result, or of its draw without one. Only a
-/// turn that consumes a number advances the processor's generator.
+/// Stores in `event` the event of a processor's turn: of this slice's result, or a draw without one. The processor's
+/// generator advances only if the turn consumes a number.
 #[inline(always)]
 pub(crate) fn next_event(
     generators: &mut Stack<ParkMiller>,
@@ -76,7 +76,7 @@ pub(crate) fn next_event(
         return;
     }
     let next = next_number(generators, processor, is_wide);
-    // The generator first: a store to it might, for all that the compiler knows, change the event.
+    // The generator first: as far as the compiler knows, a store to it might change the event.
     generators[processor as usize - 1] = next.after;
     put_event(processor, done, next.number, event);
 }

@@ -10,9 +10,9 @@ use std::marker::Model;
 #[derive(Drop)]
 pub(crate) struct History {
     processors: u32,
-    // The actor of each turn; the number after those of the processors for the timer.
+    // The actor of each turn. The timer is the number after the processors.
     actors: Stack<u8>,
-    // The threads that the timer's turns woke, in the order of these turns.
+    // The threads woken by the timer's turns, in the order of these turns.
     woken: Stack<u16>,
 }
 
@@ -30,7 +30,7 @@ impl Model for History {
 }
 
 impl History {
-    /// No turns, and room for this many. With a timer each of them may be one of the timer's.
+    /// No turns, with capacity for `room`. With a timer each of them may be the timer's.
     pub(crate) fn new(
         alloc: Global,
         processors: u32,
@@ -80,14 +80,14 @@ impl History {
         self.actors.len()
     }
 
-    /// The actors of the turns, the timer as the number after those of the processors.
+    /// The actors of the turns. The timer is the number after the processors.
     pub(crate) fn actors(&self) -> &[u8]
         ensures { result.now ≡ map (λ actor. min actor (self.now.size.processors + 1)) self.now.items }
     {
         &self.actors
     }
 
-    /// The threads that the timer's turns woke, in the order of these turns.
+    /// The threads woken by the timer's turns, in the order of these turns.
     pub(crate) fn woken(&self) -> &[u16]
         ensures { result.now ≡ woken_in self.now.size.processors self.now.items }
     {

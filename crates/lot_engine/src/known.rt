@@ -1,6 +1,6 @@
 //! Facts for the prover.
 
-/// Does nothing. Its argument brings facts into the proof: for a call, its contract; for the read of a field, the
-/// system's invariant and the range of the number's type.
+/// Does nothing at run time. Its argument brings facts into the proof: a call's contract, or for the read of a field
+/// the system's invariant and the range of the number's type.
 #[inline(always)]
 pub(crate) fn known<T: Copy>(_told: T) {}

@@ -16,9 +16,9 @@ ghost use Rattle.lot_engine.specs.declared.turn.Work.{Work};
 ghost use Rattle.lot_engine.specs.Seen.{Seen};
 ghost use Rattle.lot_engine.specs.Turns.{Faults, IsFresh, IsWorkOf, Matches};
 
-/// The threads' quanta and ticks in the world after a legal history add up to those counted over its turns. Those of
-/// a thread saturate at the largest u64, which no history of fewer than 2 ^ 32 turns reaches. If numbers are given
-/// again they may be less: a thread with the number of a removed one begins anew.
+/// The threads' quanta and ticks in the world after a legal history add up to those counted over its turns. A thread's
+/// counts saturate at the largest `u64`, which no history of fewer than 2 ^ 32 turns reaches. With `reuse` they may add
+/// up to less: a thread with a reused number starts from 0.
 pub fn threads_add_up()
     ensures quanta { (program : Program) (room : ℕ) (history : List ℕ) → IsWithinBounds program.limits
         → IsLegal program room history → room < 2 ^ 32 → program.limits.reuse ≡ false
@@ -38,8 +38,8 @@ pub fn threads_add_up()
         ≤ total_of ticks_in (turns_made program history) }
 {}
 
-/// The report's numbers of the processors add up to the counters over all turns of a legal history: the console wins
-/// no draws and uses no ticks.
+/// The processors' counts in the report add up to the counters over all turns of a legal history: the console wins no
+/// draws and uses no ticks.
 pub fn processors_add_up()
     ensures quanta { (program : Program) (room : ℕ) (history : List ℕ) → IsLegal program room history
         → sum_by (λ p. total_of quanta_in (turns_of p (turns_made program history)))
@@ -52,8 +52,8 @@ pub fn processors_add_up()
         (range_with_len 1 program.limits.processors) ≡ total_of ticks_in (turns_made program history) }
 {}
 
-/// An actor has exactly one work in a system. So a caller that passes the slice of the actor's work never gets Stale,
-/// and one that passes anything else does: a slice is fresh if and only if it is that of this work.
+/// An actor has exactly one work in a system. A caller that passes the slice of this work never gets `Stale`, and a
+/// caller that passes any other slice does.
 pub fn works_are_one()
     ensures one { (seen : Seen) (actor : ℕ) (work other : Option Work) → IsWorkOf seen actor work
         → IsWorkOf seen actor other → work ≡ other }

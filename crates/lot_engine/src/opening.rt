@@ -1,4 +1,4 @@
-//! The parts of a new system, made in two groups: at each failure to allocate, little is then left to drop.
+//! The parts of a new system, allocated in two groups, so that the proof of a failed allocation has few values to drop.
 ghost use Rattle.std.specs.Prelude.{◌≡◌, ◌+◌, ◌≤◌, [], IfOk, length, replicate};
 ghost use Rattle.lot_engine.specs.Counted.{AreCounts};
 ghost use Rattle.lot_engine.specs.Histories.{HasOpened};
@@ -14,7 +14,7 @@ use lot_program::Program;
 use lot_script::Place;
 use std::alloc::{AllocError, Global};
 
-/// A copy of the program, its tickets with names, and its generators.
+/// A copy of the program, its named tickets, and its generators.
 pub(crate) fn programmed(
     alloc: Global,
     program: &Program,
@@ -30,7 +30,7 @@ pub(crate) fn programmed(
     Ok((copy, tickets, generators))
 }
 
-/// Room for the places of the program's threads, for its history, and for the counters of its actors.
+/// Memory for the places of the program's threads, for its history, and for the counters of its actors.
 pub(crate) fn recorded(
     alloc: Global,
     program: &Program,

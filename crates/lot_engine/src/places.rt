@@ -23,7 +23,7 @@ use lot_program::Program;
 use lot_script::{Place, Script, Slice};
 use std::alloc::{AllocError, Global};
 
-/// Room for the places of this many threads.
+/// Memory for the places of this many threads.
 pub(crate) fn places_for(alloc: Global, threads: u32) -> Result<Stack<Place>, AllocError>
     ensures none { IfOk result (λ places. places.items ≡ []) }
     ensures room { IfOk result (λ places. threads ≤ places.room) }
@@ -54,7 +54,7 @@ pub(crate) fn follow_command(
     }
 }
 
-/// Puts a new thread's place where its number says: at the end, or in the place of a removed thread.
+/// Puts a new thread's place where its number says: at the end, or over a removed thread's place.
 fn put_place(places: &mut Stack<Place>, thread: u32, place: Place)
     requires next { IsBetween 1 (length places.old.items + 1) thread }
     requires room { thread ≤ places.old.room }
@@ -88,8 +88,8 @@ fn begin(program: &Program, script: u32) -> Place
     program.scripts()[script as usize - 1].start()
 }
 
-/// Updates the places after a processor's turn: a winner gets the number delivered to it, and the thread that ran is
-/// at its slice's end, with the number that it received.
+/// Updates the places after a processor's turn: a winner gets the number delivered to it, and the thread that ran goes
+/// to its slice's end, with the number that it received.
 #[inline(always)]
 pub(crate) fn follow_turn(places: &mut Stack<Place>, slice: &Option<Slice>, reply: Reply)
     requires { (t : ℕ) × OfGiven (length places.old.items) t slice.now reply }
@@ -167,7 +167,7 @@ pub(crate) fn pass_slice(
     }
 }
 
-/// Gives the thread that ran, which is at its slice's end, the number that it received.
+/// Gives the thread that ran the number that it received. The thread is at its slice's end.
 #[inline(always)]
 pub(crate) fn receive(places: &mut Stack<Place>, reply: Reply)
     requires { (t : ℕ) × (IsBetween 1 (length places.old.items) t × OfRun t reply) }

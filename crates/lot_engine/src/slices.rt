@@ -13,8 +13,8 @@ use lot_machine::Sizes;
 use lot_program::Program;
 use lot_script::{Script, Slice};
 
-/// The slice of the work in the given program, as `System::turn` needs it; none without a work. Returns Stale with
-/// the work if it doesn't fit the program.
+/// The slice of the work in the given program, as `System::turn` needs it; `None` without a work. Fails with `Stale`
+/// and the work if the work doesn't fit the program.
 pub fn slice_for(program: &Program, work: Option<Work>) -> Result<Option<Slice<'_>>, TurnFault>
     ensures ok { IfOk result (λ slice. Matches program.now work slice) }
     ensures err { IfErr result (λ fault. IsStale program.now work fault) }
@@ -37,7 +37,7 @@ pub(crate) fn slice_of(program: &Program, work: Work) -> Slice<'_>
     script_numbered(program, work.script).slice(work.place, work.budget)
 }
 
-/// The slice of a work that fits the program, from the place in the system's own table. It allocates no memory.
+/// The slice of a work that fits the program, from the place in the system's own table. It allocates nothing.
 #[inline(always)]
 pub(crate) fn slice_of_kept<'a>(program: &'a Program, work: &KeptWork<'_>) -> Slice<'a>
     requires { FitsIn program.now work.now }
@@ -74,7 +74,6 @@ fn has_script(program: &Program, number: u32) -> bool
     0 < number && number as usize <= program.scripts().len()
 }
 
-/// The script with this number.
 #[inline(always)]
 pub(crate) fn script_numbered(program: &Program, number: u32) -> &Script
     requires { IsBetween 1 (length program.now.scripts) number }

@@ -1,10 +1,8 @@
 //! The system.
-ghost use Rattle.std.specs.Prelude.{◌≡◌, ◌↔◌, ◌<◌, ◌≤◌, ◌+◌, ◌*◌, ◌^◌, [], ◌∷◌, ◌++◌, All, IfOk, IfErr};
-ghost use Rattle.std.specs.Prelude.{IsFalse, IsTrue, Some, None, false, true, length, option_and_then};
-ghost use Rattle.std.specs.Prelude.{if◌then◌else◌};
+ghost use Rattle.std.specs.Prelude.{◌≡◌, ◌↔◌, ◌<◌, ◌≤◌, ◌+◌, ◌*◌, ◌^◌, [], ◌∷◌, ◌++◌, All, IfOk, IfErr, IsFalse};
+ghost use Rattle.std.specs.Prelude.{IsTrue, Some, None, false, true, length, option_and_then, if◌then◌else◌};
 ghost use Rattle.std.specs.Borrow.{sem};
 ghost use Rattle.lot_machine.specs.Bounds.{IsBetween};
-ghost use Rattle.lot_machine.specs.Commands as commands;
 ghost use Rattle.lot_machine.specs.Facts.{base_value};
 ghost use Rattle.lot_machine.specs.Lends.{is_live};
 ghost use Rattle.lot_machine.specs.Mutexes.{mutex_at};
@@ -21,10 +19,10 @@ ghost use Rattle.lot_engine.specs.Histories.{woken_in};
 ghost use Rattle.lot_engine.specs.Playing.{IsPlayed, turn_in};
 ghost use Rattle.lot_engine.specs.Lending.{EndsSame};
 ghost use Rattle.lot_engine.specs.Searching.{HasLayoutFor, HasThoseAbove};
-ghost use Rattle.lot_engine.specs.Seen.{HasRow, after_turn, commands_made, shown_history};
-ghost use Rattle.lot_engine.specs.Seen.{timer_for, world_of};
+ghost use Rattle.lot_engine.specs.Seen.{HasRow, after_turn, commands_made, shown_history, timer_for, world_of};
 ghost use Rattle.lot_script.specs.Places.{Place as PlaceRecord};
-ghost use Rattle.lot_engine.specs.Turns.{Answers, Faults, Goes, IfStale, IsEnded, IsFresh, IsWorkOf, Prevents, work_at};
+ghost use Rattle.lot_engine.specs.Turns.{Answers, Faults, Goes, IfStale, IsEnded, IsFresh, IsWorkOf, Prevents};
+ghost use Rattle.lot_engine.specs.Turns.{work_at};
 
 use crate::TurnFault;
 use crate::counts::{Counts, count_turn};
@@ -43,7 +41,7 @@ use lot_kept::{Kept, Stack};
 use lot_kernel::{Above, Kernel, Settled};
 use lot_machine::{
     CurrencyNumber, Event, Limits, MutexNumber, Name, Processor, Reply, Status, ThreadNumber,
-    ThreadRef, ThreadRow, index_of,
+    ThreadRow, index_of,
 };
 use lot_program::Program;
 use lot_script::{Place, Slice};
@@ -53,18 +51,17 @@ use std::marker::Model;
 
 /// A kernel with a console and processors that take turns. Actor 0 is the console, and the others are the processors.
 ///
-/// Contracts see it as its program, its room and its history: everything else follows from the program's run with
-/// this history. `open` allocates all its memory, and no turn allocates.
+/// Contracts see its program, its room and its history; everything else follows from the program's run with this
+/// history. `open` allocates all its memory, and no turn allocates.
 pub struct System {
     kernel: Kernel,
     program: Program,
     /// The number of commands made.
     spent: usize,
-    /// The tickets that have names.
     tickets: NamedTickets,
     /// Each processor's generator.
     generators: Stack<ParkMiller>,
-    /// Whether it gives wide numbers, which the program's format determines; kept here since each draw needs it.
+    /// Whether the generators give wide numbers, which the program's format decides. Cached, since each draw needs it.
     is_wide: bool,
     /// Each thread's place in its script.
     places: Stack<Place>,
@@ -135,7 +132,7 @@ impl Model for System {
 }
 
 impl System {
-    /// A system of this program with room for this many turns, without a timer. It allocates all the memory that the
+    /// A system of this program with room for `room` turns, without a timer. It allocates all the memory that the
     /// system will ever use, and fails only if out of memory.
     pub fn open(alloc: Global, program: &Program, room: u32) -> Result<System, AllocError>
         ensures { IfOk result (λ s. s
@@ -144,7 +141,7 @@ impl System {
         System::open_with(alloc, program, room, false)
     }
 
-    /// The same with a timer, which wakes threads, for a timed play.
+    /// Like `open`, with a timer, which wakes threads, for a timed play. It fails only if out of memory.
     pub fn open_timed(alloc: Global, program: &Program, room: u32) -> Result<System, AllocError>
         ensures { IfOk result (λ s. s
             ≡ record { setting = record { program = program.now; room = room; timer = true }; history = [] }) }
@@ -152,7 +149,7 @@ impl System {
         System::open_with(alloc, program, room, true)
     }
 
-    /// A system of this program with room for this many turns, with or without a timer.
+    /// A system of this program with room for `room` turns, with or without a timer.
     fn open_with(
         alloc: Global,
         program: &Program,
@@ -201,7 +198,7 @@ impl System {
         self.history.actors()
     }
 
-    /// The threads that the timer's turns woke, in the order of these turns.
+    /// The threads woken by the timer's turns, in the order of these turns.
     pub fn woken(&self) -> &[u16]
         ensures { result.now ≡ woken_in self.now.setting.program.limits.processors self.now.history }
     {
@@ -239,8 +236,10 @@ impl System {
         })
     }
 
-    /// Makes one turn of an actor: the console's next command, a draw of an idle processor, or the slice of the
-    /// thread on a processor. A fault changes nothing. It allocates no memory.
+    /// Makes one turn of an actor: the console's next command, a draw of an idle processor, or the slice of the thread
+    /// on a processor. Fails with `Stale` if the slice isn't that of the actor's work, with `Ended` if the actor is the
+    /// console and no command remains, and with `HistoryFull` if there is no room for one more turn. A fault changes
+    /// nothing. It allocates nothing.
     #[inline(always)]
     pub fn turn(&mut self, actor: u32, slice: Option<Slice>) -> Result<Answer, TurnFault>
         requires { actor ≤ self.old.setting.program.limits.processors }
@@ -264,8 +263,8 @@ impl System {
         }
     }
 
-    /// Makes a turn, like `turn`, for callers that need neither the actor's next work nor the work in a Stale fault.
-    /// It stores the event in `event`: as a part of the result it would be copied at each return.
+    /// Makes a turn, like `turn`, for callers that need neither the actor's next work nor the work in a `Stale` fault.
+    /// It stores the event in `event`: a returned event would be copied at each return.
     #[inline(always)]
     pub(crate) fn try_turn(
         &mut self,
@@ -295,11 +294,10 @@ impl System {
         Ok(reply)
     }
 
-    /// Makes the actor's next turn with the slice of its own work, while the history has room, and stores its event
-    /// and the kernel's reply in `event` and `reply`: as parts of the result they would be copied at each return. It
-    /// stores in `sleeper` the thread that goes to sleep with a processor's turn, if one does.
-    /// Returns whether it made a turn. It makes none if the actor is the console and no command remains; the system
-    /// is unchanged then. It allocates no memory.
+    /// Makes the actor's next turn with the slice of its own work, while the history has room, and stores its event and
+    /// the kernel's reply in `event` and `reply`: returned ones would be copied at each return. It stores in `sleeper`
+    /// the thread that goes to sleep in a processor's turn, if one does. Returns whether it made a turn: it makes none,
+    /// and changes nothing, if the actor is the console and no command remains. It allocates nothing.
     #[inline(always)]
     pub fn next_turn(
         &mut self,
@@ -329,8 +327,8 @@ impl System {
         true
     }
 
-    /// Makes the turn of the timer in which it wakes this thread, while the history has room, and stores its event
-    /// and the kernel's reply in `event` and `reply`. It allocates no memory.
+    /// Makes the turn of the timer that wakes this thread, while the history has room, and stores its event and the
+    /// kernel's reply in `event` and `reply`. It allocates nothing.
     pub fn wake(&mut self, thread: u32, event: &mut Event, reply: &mut Reply)
         requires timer { self.old.setting.timer ≡ true }
         requires there { IsBetween 1 self.old.setting.program.limits.threads thread }
@@ -355,7 +353,7 @@ impl System {
         actor == 0 && self.spent >= self.program.commands().len()
     }
 
-    /// Whether the history has no room for one more turn.
+    /// Whether the history is full.
     #[inline(always)]
     pub fn is_full(&self) -> bool
         ensures { IsTrue result ↔ (self.now.setting.room ≤ length self.now.history) }
@@ -392,8 +390,8 @@ impl System {
         self.history.push(actor);
     }
 
-    /// Makes the console's next command, for the ticket that it names, if it does. It stores the event and the
-    /// kernel's reply in `event` and `reply`.
+    /// Makes the console's next command, with the number of its named ticket, if it has one. It stores the event and
+    /// the kernel's reply in `event` and `reply`.
     fn console_turn(&mut self, event: &mut Event, reply: &mut Reply)
         requires left { ¬ IsEnded self.old 0 }
         requires room { length self.old.history < self.old.setting.room }
@@ -421,8 +419,7 @@ impl System {
         self.program.names().get(self.spent).copied().flatten()
     }
 
-    /// Makes the slice of the thread that runs on the processor. It advances the thread's place in the system's
-    /// table.
+    /// Makes the slice of the thread that runs on the processor, and advances the thread's place in the system's table.
     #[inline(always)]
     fn run_turn(
         &mut self,
@@ -458,7 +455,7 @@ impl System {
         self.kernel.limits()
     }
 
-    /// The kernel with all values brought up to date, to read its rows. No contract of the system sees that.
+    /// The settled kernel, to read its rows. The system's contracts don't see that it recomputes values.
     pub fn settle(&mut self) -> Settled<'_>
         ensures state { result.kernel.now.state ≡ (world_of self.old).state }
         ensures* ends { sem 𝓛 (EndsSame self.entry) }
@@ -466,7 +463,8 @@ impl System {
         self.kernel.settle()
     }
 
-    /// How many numbers of currencies have been given, those of removed ones included. They begin at 0, which is base.
+    /// The count of currency numbers given so far, those of base and of removed currencies included. They run from 0 to
+    /// one below this.
     pub fn currency_count(&self) -> u32
         ensures count { result ≡ length (world_of self.now).state.currencies }
         ensures within { result ≤ self.now.setting.program.limits.currencies + 1 }
@@ -482,8 +480,8 @@ impl System {
             .currency_name(CurrencyNumber { number: currency })
     }
 
-    /// The value of a currency other than base, in base units, or 0 if it was removed. No currency is worth more than
-    /// base's active tickets.
+    /// The value, in base units, of a currency other than base, whose number must have been given, or 0 if it was
+    /// removed. No currency is worth more than base's active tickets.
     pub fn currency_value(&mut self, currency: u32) -> u64
         requires user { 0 < currency }
         requires there { currency < length (world_of self.old).state.currencies }
@@ -496,7 +494,7 @@ impl System {
             .currency_value(CurrencyNumber { number: currency })
     }
 
-    /// The value of all active tickets of base, in base units.
+    /// The total value of base's active tickets, in base units.
     pub fn base_value(&self) -> u128
         ensures value { result ≡ base_value (world_of self.now).state }
         ensures small { result < 2 ^ 96 }
@@ -504,7 +502,7 @@ impl System {
         self.kernel.base_value()
     }
 
-    /// A search for the currencies above a thread, with room for this system at any time. It allocates all the memory
+    /// A search for the currencies above a thread, with room for any state of this system. It allocates all the memory
     /// that the search will ever use, and fails only if out of memory.
     pub fn above(&self, alloc: Global) -> Result<Above, AllocError>
         ensures { IfOk result (HasLayoutFor self.now.setting.program) }
@@ -513,7 +511,7 @@ impl System {
     }
 
     /// Finds the currencies that the thread stands below: those from which a chain of tickets leads to it, or to a
-    /// thread whose lends lead to it. It allocates no memory.
+    /// thread whose lends lead to it. It allocates nothing.
     pub fn find_above(&self, thread: u32, above: &mut Above)
         requires layout { HasLayoutFor self.now.setting.program above.old }
         requires thread { IsBetween 1 (length (world_of self.now).state.records) thread }
@@ -549,9 +547,9 @@ impl System {
         self.kernel.live_value(ThreadNumber { number: thread })
     }
 
-    /// Stores in `out` the threads that wait for the mutex, the one that has waited longest first; none if there is
-    /// no such mutex. Each has a row, since a waiting thread can't have been removed. It allocates no memory, since
-    /// `out` has room for all threads.
+    /// Stores in `out` the threads that wait for the mutex, the longest wait first; none if there is no such mutex.
+    /// Each has a row, since a waiting thread can't be removed. It allocates nothing, since `out` has room for all
+    /// threads.
     pub fn list_waiters(&self, mutex: u32, out: &mut Stack<u32>)
         requires { self.now.setting.program.limits.threads ≤ out.old.room }
         ensures waiters { out.new.items ≡ (mutex_at (world_of self.now).state.mutexes mutex).waiters }
@@ -563,13 +561,6 @@ impl System {
         self.kernel.list_waiters(MutexNumber { number: mutex }, out);
     }
 
-    /// The number of the thread that a reference means, even of a dead one, if there is one.
-    pub fn thread_meant(&self, thread: &ThreadRef) -> Option<u32>
-        ensures { result ≡ commands.thread_meant (world_of self.now).state thread.now }
-    {
-        self.kernel.thread_meant(thread)
-    }
-
     /// The thread that owns the mutex, or `None` if it is free or doesn't exist.
     pub fn owner(&self, mutex: u32) -> Option<u32>
         ensures { result ≡ (mutex_at (world_of self.now).state.mutexes mutex).owner }
@@ -577,8 +568,8 @@ impl System {
         self.kernel.owner(MutexNumber { number: mutex })
     }
 
-    /// The ticks that the thread used before it gave up its quantum, for which it is compensated until it next wins a
-    /// draw. `None` if it is not compensated.
+    /// The thread's compensation: the ticks used of its last quantum, fewer than a quantum if it gave the rest up, and
+    /// more if the quantum ended late (3.4, 4.5). `None` if it has none.
     pub fn compensation(&self, thread: u32) -> Option<u32>
         ensures { result ≡ option_and_then (λ r. r.compensation) (at_number (world_of self.now).state.records thread) }
     {
@@ -616,7 +607,7 @@ impl System {
         all.saturating_sub(self.spent)
     }
 
-    /// How many numbers of threads have been given, those of removed ones included.
+    /// The count of thread numbers given so far, those of removed threads included. They run from 1 to this.
     pub fn thread_count(&self) -> u32
         ensures count { result ≡ length (world_of self.now).state.records }
         ensures within { result ≤ self.now.setting.program.limits.threads }

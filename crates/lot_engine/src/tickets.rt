@@ -1,4 +1,4 @@
-//! The tickets with names.
+//! The named tickets.
 ghost use Rattle.std.specs.Prelude.{◌≡◌, IfOk, None, replicate};
 ghost use Rattle.lot_machine.specs.declared.command.Command.{Command as CommandRecord};
 ghost use Rattle.lot_machine.specs.declared.event.Event.TheVariants as event_kinds;
@@ -11,7 +11,7 @@ use lot_machine::{Command, Event, Reply};
 use std::alloc::{AllocError, Global};
 use std::marker::Model;
 
-/// The ticket that each name has, if one has it.
+/// The ticket with each name, if there is one.
 #[derive(Drop)]
 pub(crate) struct NamedTickets {
     /// The tickets' numbers; 0 for a name that no ticket has.
@@ -27,7 +27,7 @@ impl Model for NamedTickets {
 }
 
 impl NamedTickets {
-    /// This many names, which no ticket has.
+    /// This many names without tickets.
     pub(crate) fn new(alloc: Global, names: u32) -> Result<NamedTickets, AllocError>
         ensures { IfOk result (λ named. named ≡ replicate names 0) }
     {
@@ -36,14 +36,14 @@ impl NamedTickets {
         })
     }
 
-    /// The command with the number of the ticket that it names, if it names one.
+    /// The command with the number of its named ticket, if it names one.
     #[inline(always)]
     pub(crate) fn resolve(&self, name: Option<u16>, command: Command) -> Command
         ensures { result ≡ world.resolved self.now name command }
     {
         match name {
             None => command,
-            Some(name) => for_ticket(u64::from(self.ticket_named(name)), command),
+            Some(name) => command.for_ticket(u64::from(self.ticket_named(name))),
         }
     }
 
@@ -60,8 +60,8 @@ impl NamedTickets {
             .unwrap_or(0)
     }
 
-    /// Follows a command, which may name its ticket, once the kernel has replied: a new ticket gets the name, and a
-    /// removed one loses its own, since another ticket may get its number.
+    /// Follows a command, which may name its ticket, and the kernel's reply: a new ticket gets the name, and a removed
+    /// one loses its name, since another ticket may get its number.
     #[inline(always)]
     pub(crate) fn follow(&mut self, name: Option<u16>, event: &Event, reply: Reply)
         ensures { (command : CommandRecord) → event.now ≡ event_kinds.Command command
@@ -86,7 +86,7 @@ impl NamedTickets {
         }
     }
 
-    /// Takes its name from the ticket that this event removes, if it removes one.
+    /// Clears the name of the ticket that this event removes, if it removes one.
     fn forget_removed(&mut self, event: &Event)
         ensures { (command : CommandRecord) → event.now ≡ event_kinds.Command command
             → self.new ≡ world.tickets_after self.old None command reply_kinds.Done }
@@ -96,7 +96,7 @@ impl NamedTickets {
         }
     }
 
-    /// Takes its name from this ticket.
+    /// Clears this ticket's name.
     fn forget(&mut self, ticket: u64)
         ensures { self.new ≡ world.without_ticket ticket self.old }
     {
@@ -105,18 +105,5 @@ impl NamedTickets {
                 *number = 0;
             }
         }
-    }
-}
-
-/// The command for this ticket, if it is one for a ticket.
-fn for_ticket(ticket: u64, command: Command) -> Command
-    ensures { result ≡ world.for_ticket ticket command }
-{
-    match command {
-        Command::RemoveTicket { .. } => Command::RemoveTicket { ticket },
-        Command::Fund { target, .. } => Command::Fund { ticket, target },
-        Command::Unfund { .. } => Command::Unfund { ticket },
-        Command::SetTicket { amount, .. } => Command::SetTicket { ticket, amount },
-        other => other,
     }
 }

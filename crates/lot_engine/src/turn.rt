@@ -7,10 +7,10 @@ ghost use Rattle.lot_engine.specs.Steps as steps;
 ghost use Rattle.lot_engine.specs.Turns.{IsSliceOf, Matches, work_at};
 
 use crate::slices::script_numbered;
-use lot_machine::{Action, Event, Reply};
+use lot_machine::{Event, Reply, ScriptTrap};
 use lot_program::Program;
 use lot_script::{Place, Slice};
-use lot_simulation::{MutexTrap, PortTrap, ScriptTrap, Sleeper};
+use lot_simulation::Sleeper;
 use std::marker::Model;
 
 /// The next work of the thread on a processor.
@@ -26,7 +26,7 @@ pub struct Work {
 }
 
 impl Work {
-    /// A copy of the work. It allocates no memory.
+    /// A copy of the work. It allocates nothing.
     pub fn copied(&self) -> Work
         ensures { result ≡ self.now }
     {
@@ -75,7 +75,7 @@ impl KeptWork<'_> {
         }
     }
 
-    /// A copy of the work. It allocates no memory.
+    /// A copy of the work. It allocates nothing.
     #[inline(always)]
     pub(crate) fn copied(&self) -> Work
         ensures { result ≡ self.now }
@@ -97,7 +97,7 @@ pub struct Answer {
     pub next: Option<Work>,
 }
 
-/// The reason why a turn isn't made, like `TurnFault`, but without the work.
+/// The reason why the system doesn't make a turn, like `TurnFault`, but without the work.
 #[derive(Clone, Copy, Debug)]
 pub(crate) enum TurnFaultKind {
     Stale,
@@ -105,8 +105,8 @@ pub(crate) enum TurnFaultKind {
     HistoryFull,
 }
 
-/// Whether the slice is that of the work: there is neither, or its script has the same lines, and it has the work's
-/// place as its start and the work's budget.
+/// Whether the slice is that of the work: there is neither, or its script has the same lines, it starts at the work's
+/// place, and it has the work's budget.
 #[inline(always)]
 pub(crate) fn matches_work(
     program: &Program,
@@ -160,7 +160,7 @@ pub(crate) fn done_in(slice: &Option<Slice>) -> Option<Done>
 }
 
 /// Stores in `event` the event of a processor's turn with this slice's result, or a draw without one, given the
-/// processor's next number: a returned event would be copied.
+/// processor's next number. A returned event would be copied.
 #[inline(always)]
 pub(crate) fn put_event(actor: u32, done: Option<Done>, drawn: u128, event: &mut Event)
     ensures { event.new ≡ steps.event_done actor drawn done }
@@ -171,8 +171,8 @@ pub(crate) fn put_event(actor: u32, done: Option<Done>, drawn: u128, event: &mut
     }
 }
 
-/// Stores a slice's result as an event: an expiry, or a trap after its ticks. Each is stored where it is made, so that
-/// the compiler knows the kind of the event that the kernel gets.
+/// Stores a slice's result as an event: an expiry, or a trap after its ticks. Each arm stores its own event, so that
+/// the compiler knows the event's kind in the kernel.
 #[inline(always)]
 fn put_slice_event(actor: u32, done: Done, drawn: u128, event: &mut Event)
     ensures { event.new ≡ steps.event_done actor drawn (Some done) }
@@ -180,27 +180,9 @@ fn put_slice_event(actor: u32, done: Done, drawn: u128, event: &mut Event)
     match done.trap {
         None => *event = Event::Expire(actor),
         Some(trap) => {
-            *event = Event::Trap(actor, done.ticks, action_of(trap, done.accumulator, drawn));
+            let action = trap.with(trap.object(), done.accumulator, drawn, ());
+            *event = Event::Trap(actor, done.ticks, action);
         }
-    }
-}
-
-/// A trap of a script as the kernel's action. Calls, replies and serves carry the accumulator, and an unlock the
-/// drawn number.
-#[inline(always)]
-fn action_of(trap: ScriptTrap, accumulator: u32, drawn: u128) -> Action
-    ensures { result ≡ world.action_of trap accumulator drawn }
-{
-    match trap {
-        ScriptTrap::Yield => Action::Yield,
-        ScriptTrap::Reply => Action::Reply(accumulator),
-        ScriptTrap::AtPort(PortTrap::Call, port) => Action::Call(port, accumulator),
-        ScriptTrap::AtPort(PortTrap::Receive, port) => Action::Receive(port),
-        ScriptTrap::AtPort(PortTrap::Serve, port) => Action::Serve(port, accumulator),
-        ScriptTrap::OnMutex(MutexTrap::Lock, mutex) => Action::Lock(mutex),
-        ScriptTrap::OnMutex(MutexTrap::Unlock, mutex) => Action::Unlock(mutex, drawn),
-        ScriptTrap::Sleep(_) => Action::Sleep,
-        ScriptTrap::Exit => Action::Exit,
     }
 }
 
@@ -231,5 +213,5 @@ pub(crate) fn needs_number(done: Option<Done>) -> bool
 fn unlocks(trap: Option<ScriptTrap>) -> bool
     ensures { result ≡ steps.unlocks trap }
 {
-    matches!(trap, Some(ScriptTrap::OnMutex(MutexTrap::Unlock, _)))
+    matches!(trap, Some(ScriptTrap::Unlock(..)))
 }

@@ -1,4 +1,4 @@
--- Which event a turn was.
+-- The event of a turn.
 use Rattle.lot_explain.proofs.Common.{Answered, Event, IfSome, IsFresh, IsSlice, Option, Parts, Program, Reply, Seen, TurnMade, World, ap, event-is, event_given, number_of, processor_event, refl, step, sym, system_turn, system_turn-processor, turn_in, world_of, ℕ, ◌<◌, ◌∙◌, ◌≡◌, ◌≤◌}
 
 -- a turn of a processor answers its event

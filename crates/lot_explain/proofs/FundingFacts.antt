@@ -1,6 +1,6 @@
--- A draw leaves the funding as it is.
+-- A draw leaves the funding unchanged.
 use Rattle.lot_explain.proofs.Common.{Bool, Currency, CurrencyRow, Detail, Drawn, Event, Funding, LineStyle, List, Lottery, None, OfProcessor, Option, Passed, Ready, Record, Refusal, Reply, Some, State, Step, Target, Ticket, TicketRow, Timed, Unfunded, Whole, active_amount, ap, at_number, at_number-map, backing_currency, change_record, currency_funds, currency_name, currency_row, draw, event_refusal, filter-passes, flat_map, funding_at, funding_if_won, funding_in, funding_lines, funding_of, funding_text, index-holds, is-ready, is_active, is_live_status, is_ready, issued_in, lend_of, length, live_of, map, map-set, node_value, number-kept, numbers, option_any, option_map, range_with_len, ready_threads, refl, row_funds, row_of_ticket, row_shared, set_number, some-injective, started, status_of, step, sym, target_name, ticket_funds, ticket_in, ticket_row, ticket_value, unless_refused, unwrap_or, weight_of, winner, won_in, ℕ, [], ◌++◌, ◌-◌, ◌∙◌, ◌∷◌, ◌≡◌}
-use Rattle.lot_machine.specs.declared.action.Action.TheVariants as action
+use Rattle.lot_machine.specs.declared.trap.Trap.TheVariants as action
 use Rattle.lot_machine.specs.declared.event.Event.TheVariants as event
 use Rattle.lot_machine.specs.declared.funding.Node.TheVariants as node
 use Rattle.lot_machine.specs.declared.reply.Reply.TheVariants as reply

@@ -1,4 +1,4 @@
--- Lots and loans that are gathered one by one.
+-- Lots and loans gathered one by one.
 use Rattle.lot_explain.proofs.Common.{Bool, List, State, ap, arith, false, filter, flat_map, is_ready, lot_if_ready, map, option_any, range-push, range_with_len, ready_lot, refl, status_of, suc, sym, true, ℕ, [], ◌++◌, ◌+◌, ◌∙◌, ◌∷◌, ◌≡◌}
 
 -- the lots of those of these threads that are Ready

@@ -1,4 +1,4 @@
--- A loan is what the machine's thread lends.
+-- A loan is the lend of the machine's thread.
 use Rattle.lot_explain.proofs.Common.{All, All-append, All-cons, All-nil, Bool, IsLent, List, Loan, Mutex, None, Option, Ready, Record, Running, Served, Some, State, Status, ThreadRow, Waiting, all_loans, ap, arith, at_number, at_number-map, borrower, borrower_of, cond, eqb-false, false, flat_map, funding_of, is_live, is_live_status, is_none, lend-at, lend_of, lends-to-nobody, lends_to, live_of, loan_in, loan_of, loan_to, mutex_at, numbers, option_and_then, option_any, option_flatten, option_map, or_parts, owner_of, refl, status_of, sym, thread_row, true, unlent-nothing, unwrap_or, value_of, ℕ, [], ◌==◌, ◌||◌, ◌∙◌, ◌∷◌, ◌≡◌}
 use Rattle.lot_explain.proofs.ShortLots.{rows-record}
 

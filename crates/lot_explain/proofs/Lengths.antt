@@ -1,4 +1,4 @@
--- How long the lines of lots and of loans are at most.
+-- The largest lengths of the lines of lots and of loans.
 use Rattle.lot_explain.proofs.Common.{All, All-head, All-tail, Bool, Compensation, IfSome, IsUnit, LineStyle, List, Loan, Lot, Lottery, None, OfMutex, OfProcessor, Option, Some, Timed, Whole, Won, arith, behind_point, codes, cond, decimal, div-le_self, drawn_value, eqb-true, false, flat_map, front, length, length-append, length-decimal-le_wide, loan_line, loan_lines, lot_diagnostics, lot_line, mark, newline, part_word, quotient_text, refl, sum_by-cons, total_of, true, value_text, weight_word, why_text, ℕ, [], ◌%◌, ◌*◌, ◌++◌, ◌+◌, ◌/◌, ◌<◌, ◌==◌, ◌^◌, ◌∷◌, ◌≡◌, ◌≤◌}
 
 -- a list that is joined of two is no longer than their bounds add up to

@@ -1,4 +1,4 @@
--- Lines of lots and of loans that are written one by one.
+-- Lines of lots and of loans written one by one.
 use Rattle.lot_explain.proofs.Common.{Appends, Begins, LineStyle, List, Lot, Option, Won, ap, append-nil, append_assoc, appends-both, arith, begins-after, begins-front, drop, flat_map, flat_map-append, get_or, length, lot_diagnostics, lot_line, refl, subst, sum_by, sum_by-append, sum_by-cons, sym, take, take-append-drop, take_more, total_of, ℕ, [], ◌++◌, ◌+◌, ◌<◌, ◌∙◌, ◌∷◌, ◌≡◌}
 
 module _ (style : LineStyle) (unit actor : ℕ) (won : Won) where

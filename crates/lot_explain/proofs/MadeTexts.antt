@@ -1,4 +1,4 @@
--- The output of `explain` is what explains each of the program's turns, and then the report.
+-- The output of `explain` is the explanation of each of the program's turns, followed by the report.
 use Rattle.lot_explain.proofs.Common.{Detail, List, None, Option, Program, Some, Timed, TimedTurn, Whole, World, ap, explained_program, explained_text, explained_texts, explained_times, explained_turns, last_report, opening_world, refl, scheduled_turns, system_turn, timed_turns, turns_by, turns_in_time, ℕ, [], ◌++◌, ◌∷◌, ◌≡◌}
 
 texts-scheduled : (detail : Detail) (program : Program) (w : World) (actors : List ℕ) → explained_texts detail program w actors ≡ explained_turns detail (scheduled_turns program w actors)

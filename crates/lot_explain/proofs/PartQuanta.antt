@@ -1,6 +1,6 @@
 -- A thread is compensated only for less than a whole quantum, unless an event charged it more than one.
 use Rattle.lot_explain.proofs.Common.{Action, After, All, All-push, All-set, Bool, Call, Command, Drawn, Ends, Event, Exit, GoesOn, IfSome, Kill, Leaves, List, Lock, MakeFunded, MakeThread, Mutex, None, Option, Port, QueuedCall, Receive, Record, Refusal, Serve, Sizes, Sleep, Some, State, Step, TrapRefusal, Unlock, Yield, after_trap, arith, at_number, at_number-suc, before_lock, call, change_each, change_record, checked_effect, command_effect, command_refusal, command_step, compensation_for, cond, draw, ended, event_effect, event_refusal, false, first_client, free_threads, get_or_from_slice_get, killed, lock, ltb-true, map, mutex_at, nat_lt, newborn, option_map, placed, port_at, ready_threads, receive, refl, released, released_by, reply, slice_get_within, slice_index, step, subst, suc, sym, thread_meant, thread_there, trap_effect, trap_refusal, true, unless_refused, unlock, unwrap_or, used_there, value_of, weight_of, winner, with_ticks, zero, ℕ, [], ◌+◌, ◌-◌, ◌<◌, ◌∙◌, ◌∷◌, ◌≡◌}
-use Rattle.lot_machine.specs.declared.action.Action.TheVariants.{Reply as ReplyTo}
+use Rattle.lot_machine.specs.declared.trap.Trap.TheVariants.{Reply as ReplyTo}
 use Rattle.lot_machine.specs.declared.event.Event.TheVariants as event
 use Rattle.lot_machine.specs.declared.record.Status.TheVariants as status
 
@@ -98,7 +98,6 @@ module _ (quantum : ℕ) where
           rw is (change-parts (λ r. record r { status = status.Ready }) (λ r part. part) s.records (slice_index (w ∷ ws) place) parts)
 
   effect-parts : (s : State) (t : ℕ) (action : Action) → AreParts quantum s.records → AreParts quantum (trap_effect s t action).state.records
-  effect-parts s t Yield parts = parts
   effect-parts s t (Call port number) parts = call-parts s t port number parts
   effect-parts s t (Receive port) parts = receive-parts s.records s.clients s.ports t port parts
   effect-parts s t (ReplyTo number) parts = reply-parts s t number parts
@@ -107,8 +106,7 @@ module _ (quantum : ℕ) where
       receive-parts first.records first.clients first.ports t port (reply-parts s t number parts)
   effect-parts s t (Lock m) parts = lock-parts s.records (before_lock s t m) t m parts
   effect-parts s t (Unlock m d) parts = unlock-parts s (value_of s) m d parts
-  effect-parts s t Sleep parts = parts
-  effect-parts s t Exit parts = parts
+  effect-parts s t action parts = parts
 
   checked-parts : (s : State) (t : ℕ) (action : Action) (o : Option TrapRefusal) → AreParts quantum s.records → AreParts quantum (checked_effect s o (trap_effect s t action)).state.records
   checked-parts s t action None parts = effect-parts s t action parts

@@ -1,16 +1,21 @@
--- What every program that is read has: sizes within their bounds, short names of threads, and times of 32 bits.
-use Rattle.lot_explain.proofs.Common.{ActorRun, All, All-nil, All-push, BadHeader, BadLine, BadNumber, BodyWord, Bool, Command, Currencies, Err, Fund, HasShortName, HeaderWord, IfOk, IfSome, InputRefusal, IsBetween, IsUnit, IsWithinBounds, Kill, List, MakeCurrency, MakeFunded, MakeThread, MakeTicket, None, Ok, OpenScript, Option, Phrase, Program, Reading, RemoveCurrency, RemoveThread, RemoveTicket, Result, ScriptLine, ScriptWord, Separators, SetTicket, Some, Threads, TicketRef, Tickets, TooDeep, TooLong, Unfund, actor_below, actors_of, add_command, add_for_ticket, add_line, add_named, add_naming, add_runs, all-pass, any_name, any_number, any_ticket, arith, body_after_header, body_line, body_words_of, bytes_eq, checked, closed_program, codes, cond, each, each_pair, end_of, false, first_failing, first_line, fitting_line, header_in_order, header_line, header_words_of, if◌then◌else◌, in_time, is_full, is_ignored, is_late, is_long_name, lacks_duration, later_line, leb-false, length, length-append, line_inside, line_outside, lines_of, ltb-false, max, names_ticket, nat_le, nat_lt, new_name, not, number_between, opening_reading, or_parts, phrase_inside, phrases_inside, phrases_of, program_in, program_of, read_line, read_lines, refl, refused_on, run_of, script_line, script_names, script_number, script_words, separators_of, subst, ticket_name, ticket_number, timed_script_words, token_line, tokens_of, true, unwrap_or, whole_program, with_header_word, with_line, without_end, word_in, ℕ, [], ◌%◌, ◌&&◌, ◌++◌, ◌+◌, ◌-◌, ◌<◌, ◌==◌, ◌>>=◌, ◌^◌, ◌||◌, ◌∷◌, ◌≡◌, ◌≤◌}
-use Rattle.lot_machine.specs.declared.command.Command.TheVariants.{List as Listing}
+-- Every accepted program has sizes within their bounds, short names of threads, and times of 32 bits.
+use Rattle.lot_explain.proofs.Common.{ActorRun, All, All-nil, All-push, BadHeader, BadLine, BadNumber, BodyWord, Bool, Command, Err, HasShortName, HeaderWord, IfOk, IfSome, InputRefusal, IsBetween, IsUnit, IsWithinBounds, List, None, Ok, OpenScript, Option, Phrase, Program, Reading, Result, ScriptLine, ScriptWord, Separators, Slot, Some, TooDeep, TooLong, UnknownName, Value, Verb, actor_below, actors_of, add_line, add_made, add_named, add_naming, add_runs, all-pass, any_name, any_number, any_ticket, arith, body_after_header, body_line, body_words_of, bytes_eq, checked, closed_program, codes, command_from, command_line, cond, drop, each, each_pair, end_of, false, first_failing, first_line, fitting_line, form, header_in_order, header_line, header_words_of, if◌then◌else◌, in_time, is_full, is_good_name, is_ignored, is_late, is_long_name, lacks_duration, later_line, leb-false, length, length-append, line_inside, line_outside, lines_of, ltb-false, map, max, name_at_end, name_in, named_ticket, nat_le, nat_lt, new_name, not, number_between, number_named, numbered, opening_reading, or_parts, phrase_inside, phrases_inside, phrases_of, program_in, program_of, read_line, read_lines, refl, refused_on, run_of, script_line, script_names, script_number, script_words, separators_of, subst, timed_script_words, token_line, tokens_of, true, unwrap_or, value_from, values_from, whole_program, with_header_word, with_line, without_end, word_in, ℕ, [], ⊤, ◌%◌, ◌&&◌, ◌++◌, ◌+◌, ◌-◌, ◌<◌, ◌==◌, ◌>>=◌, ◌^◌, ◌||◌, ◌∷◌, ◌≡◌, ◌≤◌}
 use Rattle.lot_machine.specs.declared.reference.CurrencyRef.TheVariants as currency_ref
 use Rattle.lot_machine.specs.declared.reference.ThreadRef.TheVariants as thread_ref
 use Rattle.lot_machine.specs.declared.reference.TargetRef.TheVariants as target_ref
+use Rattle.lot_machine.specs.declared.verb.Slot.TheVariants as slot
+use Rattle.lot_machine.specs.Arguments as value
+use Rattle.lot_machine.specs.declared.verb.Verb.TheVariants as verb
 use Rattle.lot_simulation.specs.declared.input.BodyWord.TheVariants as body
 use Rattle.lot_simulation.specs.declared.input.HeaderWord.TheVariants as header
 use Rattle.lot_simulation.specs.declared.input.InputRefusal.TheVariants.{OpenScript as ScriptIsOpen}
+use Rattle.lot_simulation.specs.declared.input.Options.{Options}
 use Rattle.lot_simulation.specs.declared.input.ScriptWord.TheVariants as script
 use Rattle.lot_simulation.specs.declared.script.ScriptLine.TheVariants as line
-use Rattle.lot_simulation.specs.declared.script.ScriptTrap.TheVariants as trap
+use Rattle.lot_simulation.specs.Grammar.{option_line}
 use Rattle.lot_simulation.specs.Lines.{number_of}
+use Rattle.lot_simulation.specs.Words.{options_with}
+use Rattle.lot_machine.specs.Actions.{with_numbers}
 
 -- ---- answers
 
@@ -72,6 +77,49 @@ name-short token =
     let checks = (is_long_name token, TooLong) ∷ [] in
     if-passes IsShortName checks token (λ passes. ltb-false 16 (length token) (all-pass checks passes).0)
 
+-- ---- arguments
+
+-- an argument that is a name has at most 16 bytes
+abbrev IsShortValue : Value → Type 0
+IsShortValue (value.Name name) = IsShortName name
+IsShortValue other = ⊤
+
+-- so has each
+abbrev AreShort : List Value → Type 0
+AreShort [] = ⊤
+AreShort (v ∷ values) = IsShortValue v × AreShort values
+
+-- also with a number in the place of a ticket's name
+numbered-short : (values : List Value) → AreShort values → AreShort (map (numbered 0) values)
+numbered-short [] short = tt
+numbered-short (v ∷ values) short = (at v short.0, numbered-short values short.1)
+  where
+    at : (w : Value) → IsShortValue w → IsShortValue (numbered 0 w)
+    at (value.NamedTicket name) is = tt
+    at (value.Amount amount) is = is
+    at (value.Ticket ticket) is = is
+    at (value.Currency currency) is = is
+    at (value.Target target) is = is
+    at (value.Thread thread) is = is
+    at (value.Name name) is = is
+    at (value.Script number) is = is
+
+-- so the command with these arguments gives a thread a short name
+command-short : (v : Verb) (values : List Value) → AreShort values → IfSome (command_from v values) HasShortName
+command-short verb.MakeTicket (value.Amount a ∷ value.Currency c ∷ []) short = tt
+command-short verb.RemoveTicket (value.Ticket t ∷ []) short = tt
+command-short verb.MakeCurrency (value.Name name ∷ []) short = tt
+command-short verb.RemoveCurrency (value.Currency c ∷ []) short = tt
+command-short verb.Fund (value.Ticket t ∷ value.Target to ∷ []) short = tt
+command-short verb.Unfund (value.Ticket t ∷ []) short = tt
+command-short verb.SetTicket (value.Ticket t ∷ value.Amount a ∷ []) short = tt
+command-short verb.MakeThread (value.Name name ∷ value.Script s ∷ []) short = short.0
+command-short verb.RemoveThread (value.Thread t ∷ []) short = tt
+command-short verb.Kill (value.Thread t ∷ []) short = tt
+command-short verb.MakeFunded (value.Amount a ∷ value.Currency c ∷ value.Name name ∷ value.Script s ∷ []) short = short.1.1.0
+command-short (verb.List kind) [] short = tt
+command-short v other short = tt
+
 -- ---- what every reading has
 
 -- the sizes that the header says, and how long the input runs
@@ -128,6 +176,11 @@ module _ (r : Reading) (kept : IsRead r) where
   resized processors quantum tickets currencies threads duration sizes =
       reads IsRead (record r { processors = processors; quantum = quantum; tickets = tickets; currencies = currencies; threads = threads; duration = duration }) (sizes, kept.1, kept.2, kept.3, kept.4)
 
+  -- a line of the header that chooses options, if it chooses any
+  option-kept : (tokens : List (List ℕ)) (chosen : Option Options) → Reads (option_line r tokens chosen) IsRead
+  option-kept [] (Some options) = if-passes IsRead ((not r.is_timed, BadLine) ∷ []) (record r { options = options }) (λ _. kept)
+  option-kept tokens chosen = refuses IsRead BadLine
+
   -- a line of the header
   header-kept : (word : HeaderWord) (tokens : List (List ℕ)) → Reads (header_line r word tokens) IsRead
   header-kept header.Processors (p ∷ []) =
@@ -157,18 +210,16 @@ module _ (r : Reading) (kept : IsRead r) where
       (record { of_processors = old.of_processors; of_quantum = old.of_quantum; of_tickets = of_tickets; of_currencies = of_currencies; of_threads = of_threads; of_unit = old.of_unit; time = old.time }))))
   header-kept header.Without (mechanism ∷ []) = compensates (bytes_eq mechanism (codes "compensation"))
     where
-      lends : (named : Bool) → Reads (if named then checked ((not r.is_timed, BadLine) ∷ (r.without_lending, BadHeader) ∷ []) (record r { without_lending = true }) else Err BadLine) IsRead
-      lends true = if-passes IsRead ((not r.is_timed, BadLine) ∷ (r.without_lending, BadHeader) ∷ []) (record r { without_lending = true }) (λ _. kept)
+      lends : (named : Bool) → Reads (if named then checked ((not r.is_timed, BadLine) ∷ (r.options.without_lending, BadHeader) ∷ []) (record r { options = record r.options { without_lending = true } }) else Err BadLine) IsRead
+      lends true = if-passes IsRead ((not r.is_timed, BadLine) ∷ (r.options.without_lending, BadHeader) ∷ []) (record r { options = record r.options { without_lending = true } }) (λ _. kept)
       lends false = refuses IsRead BadLine
 
-      compensates : (named : Bool) → Reads (if named then checked ((not r.is_timed, BadLine) ∷ (r.without_compensation, BadHeader) ∷ []) (record r { without_compensation = true })
-          else if bytes_eq mechanism (codes "lending") then checked ((not r.is_timed, BadLine) ∷ (r.without_lending, BadHeader) ∷ []) (record r { without_lending = true })
+      compensates : (named : Bool) → Reads (if named then checked ((not r.is_timed, BadLine) ∷ (r.options.without_compensation, BadHeader) ∷ []) (record r { options = record r.options { without_compensation = true } })
+          else if bytes_eq mechanism (codes "lending") then checked ((not r.is_timed, BadLine) ∷ (r.options.without_lending, BadHeader) ∷ []) (record r { options = record r.options { without_lending = true } })
           else Err BadLine) IsRead
-      compensates true = if-passes IsRead ((not r.is_timed, BadLine) ∷ (r.without_compensation, BadHeader) ∷ []) (record r { without_compensation = true }) (λ _. kept)
+      compensates true = if-passes IsRead ((not r.is_timed, BadLine) ∷ (r.options.without_compensation, BadHeader) ∷ []) (record r { options = record r.options { without_compensation = true } }) (λ _. kept)
       compensates false = lends (bytes_eq mechanism (codes "lending"))
-  header-kept header.Strict [] = if-passes IsRead ((not r.is_timed, BadLine) ∷ []) (record r { strict = true }) (λ _. kept)
-  header-kept header.Reuse [] = if-passes IsRead ((not r.is_timed, BadLine) ∷ []) (record r { reuse = true }) (λ _. kept)
-  header-kept word tokens = refuses IsRead BadLine
+  header-kept word tokens = option-kept tokens (options_with r.options word)
 
   -- if it doesn't come too late
   header-ordered : (word : HeaderWord) (tokens : List (List ℕ)) → Reads (header_in_order r word tokens) IsRead
@@ -197,11 +248,7 @@ module _ (r : Reading) (kept : IsRead r) where
     script-kept script.Loop (n ∷ []) =
         any-read _ IsRead (λ times. script-goes_on (record (with_line s (line.Loop times)) { loops = s.loops + 1 }) ((nat_le 8 s.loops, TooDeep) ∷ (is_full s, TooLong) ∷ []))
     script-kept script.End [] = script-goes_on (record (with_line s line.End) { loops = s.loops - 1 }) ((s.loops == 0, BadLine) ∷ (is_full s, TooLong) ∷ [])
-    script-kept script.Yield [] = line-kept (line.Trap trap.Yield)
-    script-kept script.Reply [] = line-kept (line.Trap trap.Reply)
-    script-kept (script.AtPort asked) (name ∷ []) = any-read _ IsRead (λ port. line-kept (line.Trap (trap.AtPort asked port)))
-    script-kept (script.OnMutex asked) (name ∷ []) = any-read _ IsRead (λ mutex. line-kept (line.Trap (trap.OnMutex asked mutex)))
-    script-kept script.Sleep (n ∷ []) = any-read _ IsRead (λ ticks. line-kept (line.Trap (trap.Sleep ticks)))
+    script-kept (script.Trap kind) tokens = any-read _ IsRead (λ number. line-kept (line.Trap (with_numbers kind number tt tt number)))
     script-kept script.EndScript [] =
         let closed = record { name = s.name; lines = s.lines } ∷ [] in
         if-passes IsRead ((nat_lt 0 s.loops, BadLine) ∷ []) (record r { unclosed = None; scripts = r.scripts ++ closed })
@@ -215,20 +262,58 @@ module _ (r : Reading) (kept : IsRead r) where
 
   -- ---- the body
 
-  -- one command more that names no ticket
-  command-kept : (c : Command) → HasShortName c → Reads (add_command r c) IsRead
-  command-kept c short = naming-kept r kept None c short
-
-  -- one for this ticket
-  for_ticket-kept : (ticket : TicketRef) (c : ℕ → Command) → ((number : ℕ) → HasShortName (c number)) → Reads (add_for_ticket r ticket c) IsRead
-  for_ticket-kept ticket c short = naming-kept r kept (ticket_name ticket) (c (ticket_number ticket)) (short (ticket_number ticket))
-
-  -- one that makes a ticket with a name
+  -- a command that makes a ticket with a name
   named-kept : (token : List ℕ) (c : Command) → HasShortName c → Reads (add_named r token c) IsRead
   named-kept token c short =
       then-read IsRead IsRead
       (any-read (new_name r.ticket_names token) IsRead (λ name. if-passes IsRead ((nat_le 4096 (length r.ticket_names), TooLong) ∷ []) (record r { ticket_names = r.ticket_names ++ name ∷ [] }) (λ _. kept)))
       (λ named is. naming-kept named is (Some (length named.ticket_names)) c short)
+
+  -- a command, if it is one
+  made-kept : (name : Option (List ℕ)) (values : List Value) (made : Option Command) → IfSome made HasShortName → Reads (add_made r name values made) IsRead
+  made-kept name values None short = refuses IsRead BadLine
+  made-kept None values (Some c) short = naming-kept r kept (name_in values) c short
+  made-kept (Some token) values (Some c) short = named-kept token c short
+
+  -- a ticket is no name of a thread
+  ticket-short : (token : List ℕ) → Reads (any_ticket r token) IsShortValue
+  ticket-short token = at (number_of token) refl
+    where
+      known : (o : Option ℕ) → Reads (named_ticket o) IsShortValue
+      known None = refuses IsShortValue UnknownName
+      known (Some name) = reads IsShortValue (value.NamedTicket name) tt
+
+      named : (good : Bool) → Reads (if good then named_ticket (number_named r.ticket_names token) else Err BadNumber) IsShortValue
+      named true = known (number_named r.ticket_names token)
+      named false = refuses IsShortValue BadNumber
+
+      at : (o : Option ℕ) → number_of token ≡ o → Reads (any_ticket r token) IsShortValue
+      at (Some number) is = rw is (reads IsShortValue (value.Ticket number) tt)
+      at None is = rw is (named (r.is_timed && is_good_name token))
+
+  -- an argument of a command
+  value-short : (kind : Slot) (token : List ℕ) → Reads (value_from r kind token) IsShortValue
+  value-short slot.Amount token = any-read (any_number token) IsShortValue (λ amount. reads IsShortValue (value.Amount amount) tt)
+  value-short slot.Ticket token = ticket-short token
+  value-short slot.Currency token = any-read (any_name token) IsShortValue (λ name. reads IsShortValue (value.Currency (currency_ref.Named name)) tt)
+  value-short slot.Target token = any-read (any_name token) IsShortValue (λ name. reads IsShortValue (value.Target (target_ref.Named name)) tt)
+  value-short slot.Thread token = any-read (any_name token) IsShortValue (λ name. reads IsShortValue (value.Thread (thread_ref.Named name)) tt)
+  value-short slot.Name token = then-read IsShortName IsShortValue (name-short token) (λ name short. reads IsShortValue (value.Name name) short)
+  value-short slot.Script token = any-read (script_number (script_names r) token) IsShortValue (λ number. reads IsShortValue (value.Script number) tt)
+
+  -- its arguments
+  values-short : (kinds : List Slot) (tokens : List (List ℕ)) → Reads (values_from r kinds tokens) AreShort
+  values-short [] tokens = reads AreShort [] tt
+  values-short (kind ∷ kinds) [] = refuses AreShort BadLine
+  values-short (kind ∷ kinds) (token ∷ tokens) =
+      then-read IsShortValue AreShort (value-short kind token) (λ first is. then-read AreShort AreShort (values-short kinds tokens) (λ others are. reads AreShort (first ∷ others) (is, are)))
+
+  -- a line of a command
+  command-kept : (v : Verb) (tokens : List (List ℕ)) → Reads (command_line r v tokens) IsRead
+  command-kept v tokens =
+      any-read (checked ((nat_lt (length tokens) (length (form v)), BadLine) ∷ []) tokens) IsRead (λ given. any-read (name_at_end r v (drop (length (form v)) given)) IsRead (λ name.
+      then-read AreShort IsRead (values-short (form v) given) (λ values short.
+      made-kept name values (command_from v (map (numbered 0) values)) (command-short v (map (numbered 0) values) (numbered-short values short)))))
 
   -- a schedule that goes on by runs
   runs-kept : (runs : List ActorRun) → Reads (add_runs r runs) IsRead
@@ -245,29 +330,7 @@ module _ (r : Reading) (kept : IsRead r) where
   body-kept n body.Script (token ∷ []) =
       any-read _ IsRead (λ name. if-passes IsRead ((nat_le 256 (length r.scripts), TooLong) ∷ []) (record r { unclosed = Some (record { name = name; begins = n; lines = []; loops = 0 }) }) (λ passes.
       (kept.0, kept.1, kept.2, (kept.3.0, room-for (length r.scripts) passes), kept.4)))
-  body-kept n body.MakeTicket (a ∷ c ∷ []) = any-read (any_number a) IsRead (λ amount. any-read (any_name c) IsRead (λ currency. command-kept (MakeTicket amount (currency_ref.Named currency)) tt))
-  body-kept n body.MakeTicket (a ∷ c ∷ word ∷ token ∷ []) =
-      any-read (checked ((not (names_ticket r word), BadLine) ∷ []) a) IsRead (λ given. any-read (any_number given) IsRead (λ amount. any-read (any_name c) IsRead (λ currency.
-      named-kept token (MakeTicket amount (currency_ref.Named currency)) tt)))
-  body-kept n body.RemoveTicket (t ∷ []) = any-read (any_ticket r t) IsRead (λ ticket. for_ticket-kept ticket RemoveTicket (λ _. tt))
-  body-kept n body.MakeCurrency (token ∷ []) = any-read _ IsRead (λ name. command-kept (MakeCurrency name) tt)
-  body-kept n body.RemoveCurrency (c ∷ []) = any-read _ IsRead (λ currency. command-kept (RemoveCurrency (currency_ref.Named currency)) tt)
-  body-kept n body.Fund (t ∷ to ∷ []) = any-read (any_ticket r t) IsRead (λ ticket. any-read (any_name to) IsRead (λ target. for_ticket-kept ticket (λ number. Fund number (target_ref.Named target)) (λ _. tt)))
-  body-kept n body.Unfund (t ∷ []) = any-read (any_ticket r t) IsRead (λ ticket. for_ticket-kept ticket Unfund (λ _. tt))
-  body-kept n body.SetTicket (t ∷ a ∷ []) = any-read (any_ticket r t) IsRead (λ ticket. any-read (any_number a) IsRead (λ amount. for_ticket-kept ticket (λ number. SetTicket number amount) (λ _. tt)))
-  body-kept n body.RemoveThread (c ∷ []) = any-read _ IsRead (λ thread. command-kept (RemoveThread (thread_ref.Named thread)) tt)
-  body-kept n body.Kill (c ∷ []) = any-read _ IsRead (λ thread. command-kept (Kill (thread_ref.Named thread)) tt)
-  body-kept n body.MakeThread (token ∷ s ∷ []) =
-      then-read IsShortName IsRead (name-short token) (λ name short. any-read (script_number (script_names r) s) IsRead (λ number. command-kept (MakeThread name number) short))
-  body-kept n body.MakeFunded (a ∷ c ∷ token ∷ s ∷ []) =
-      any-read (any_number a) IsRead (λ amount. any-read (any_name c) IsRead (λ currency. then-read IsShortName IsRead (name-short token) (λ name short.
-      any-read (script_number (script_names r) s) IsRead (λ number. command-kept (MakeFunded amount (currency_ref.Named currency) name number) short))))
-  body-kept n body.MakeFunded (a ∷ c ∷ token ∷ s ∷ word ∷ ticket ∷ []) =
-      any-read (checked ((not (names_ticket r word), BadLine) ∷ []) a) IsRead (λ given. any-read (any_number given) IsRead (λ amount. any-read (any_name c) IsRead (λ currency.
-      then-read IsShortName IsRead (name-short token) (λ name short. any-read (script_number (script_names r) s) IsRead (λ number. named-kept ticket (MakeFunded amount (currency_ref.Named currency) name number) short)))))
-  body-kept n body.ListTickets [] = command-kept (Listing Tickets) tt
-  body-kept n body.ListCurrencies [] = command-kept (Listing Currencies) tt
-  body-kept n body.ListThreads [] = command-kept (Listing Threads) tt
+  body-kept n (body.Command v) tokens = command-kept v tokens
   body-kept n body.At (t ∷ []) = any-read _ IsRead (λ time. reads IsRead (record r { time = time }) kept)
   body-kept n body.Schedule (first ∷ others) =
       any-read (checked ((r.is_timed, BadLine) ∷ []) (first ∷ others)) IsRead (λ tokens. any-read (each (actor_below r.processors) tokens) IsRead (λ actors.

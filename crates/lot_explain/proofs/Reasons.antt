@@ -1,4 +1,4 @@
--- A compensated thread weighs what its reason says, in each world that a program reaches.
+-- A compensated thread has the weight of its reason, in each world that a program reaches.
 use Rattle.lot_explain.proofs.Common.{All-nil, Bool, Command, Compensation, IfSome, List, None, Option, Program, Record, Sizes, Some, State, World, actor_event, ap, arith, at_number, compensation_of, cond, console_turn, false, le-div, mul-le-mul_left, next_name, opening_world, option_and_then, option_map, processor_turn, refl, resolved, some-injective, step-limits, subst, sym, system_after, system_run, system_turn, true, value_of, weight, weight_of, ℕ, [], ◌*◌, ◌/◌, ◌<◌, ◌==◌, ◌∙◌, ◌∷◌, ◌≡◌, ◌≤◌}
 use Rattle.lot_machine.specs.declared.event.Event.TheVariants as event
 use Rattle.lot_explain.proofs.PartQuanta.{AreParts, IsPart, command-parts, part-at, step-parts}

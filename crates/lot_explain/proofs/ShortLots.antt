@@ -1,9 +1,11 @@
--- The lots of a lottery and the loans at it: they are no more than there may be threads, their names are short, and the lots weigh less than 2 ^ 66 together.
-use Rattle.lot_explain.proofs.Common.{All, All-append, All-cons, All-nil, Bool, Compensation, Contains, Contains-from_any, Entrants, IfSome, IsDistinct-from_apart, IsInOrder, List, Loan, Lot, Mutex, Nobody, None, Option, Record, Some, State, Status, Thread, ThreadRow, Waiters, all_loans, ap, arith, at_number, at_number-suc, compensation_of, cond, draw_lots, eqb, eqb-true, false, filter, filter-passes, flat_map, funding_of, get_or, get_or_from_slice_get, is-ready, is_none, is_ready, lends_to, length, length-append, length-le_from_distinct_below, length-map, length-range_with_len, list_any, live_of, loan_in, loan_of, loan_to, loans_among, lot_of, lots_among, map, mutex_lots, ne_eqb, numbered, numbers, option_and_then, option_any, option_flatten, option_map, order-sound, ready_lot, ready_threads, refl, row_of_thread, slice_get, slice_get-get_or, slice_get_within, some-injective, status_of, subst, suc, sum-map, sum_by, sum_by-cons, sym, thread-bounded, thread_name, thread_row, total_of, true, unwrap_or, value_of, waiter_lot, waiters-worth, weight_of, zero, ℕ, [], ◌+◌, ◌<◌, ◌==◌, ◌^◌, ◌||◌, ◌∙◌, ◌∷◌, ◌≡◌, ◌≤◌}
+-- The lots of a lottery and the loans at it: no more than the limit on threads, with short names, and the lots weigh
+-- less than 2 ^ 66 together.
+use Rattle.lot_explain.proofs.Common.{All, All-append, All-cons, All-nil, Bool, Compensation, Contains, Contains-from_any, Entrants, IfSome, IsDistinct-from_apart, IsInOrder, List, Loan, Lot, Mutex, Nobody, None, Option, Record, Some, State, Status, Thread, ThreadRow, Waiters, all_loans, ap, arith, at_number, at_number-suc, compensation_of, cond, draw_lots, eqb, eqb-true, false, filter, filter-passes, flat_map, funding_of, get_or, get_or_from_slice_get, is-ready, is_none, is_ready, lends_to, length, length-append, length-le_from_distinct_below, length-map, length-range_with_len, list_any, live_of, loan_in, loan_of, loan_to, loans_among, lot_of, lots_among, map, mutex_lots, ne_eqb, numbers, option_and_then, option_any, option_flatten, option_map, order-sound, ready_lot, ready_threads, refl, row_of_thread, slice_get, slice_get-get_or, slice_get_within, some-injective, status_of, subst, suc, sum-map, sum_by, sum_by-cons, sym, thread-bounded, thread_name, thread_row, total_of, true, unwrap_or, value_of, waiter_lot, waiters-worth, weight_of, zero, ℕ, [], ◌+◌, ◌<◌, ◌==◌, ◌^◌, ◌||◌, ◌∙◌, ◌∷◌, ◌≡◌, ◌≤◌}
 use Rattle.lot_machine.specs.declared.record.Status.TheVariants as status
 use Rattle.lot_explain.specs.declared.entrants.Entrants.TheVariants.{Ready}
 use Rattle.lot_explain.proofs.Lengths.{IsShortLoan, IsShortLot, IsShortReason}
 use Rattle.lot_explain.proofs.PartQuanta.{AreParts, part-at}
+use Rattle.lot_machine.proofs.RecordsKept.{numbered}
 
 -- a thread's name has at most 16 bytes
 abbrev pub IsShortThread : Thread → Type 0

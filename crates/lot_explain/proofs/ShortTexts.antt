@@ -1,4 +1,4 @@
--- What explains turns is longer than what is written of them by a line for each turn and each thread that there may be at most.
+-- The explanation of turns is longer than their lines by at most one line for each turn and each possible thread.
 use Rattle.lot_explain.proofs.Common.{All, Bool, Due, HasShortName, IsWithinBounds, List, Lots, Moment, None, Ok, Option, Program, Some, Timed, TimedTurn, Whole, World, all_due, ap, arith, cond, due_first, earliest, end_of, explained_in_time, explained_output, explained_program, explained_schedule, explained_texts, explained_times, false, flat_map, length, length-append, line_bytes, lots_text, ltb-false, min-le_left, moment_after, nat_lt, next-follows, next_due, opening_moment, opening_world, output, played_output, printed_actor, program_in, refl, report, scheduled_output, some-injective, suc, system_run, system_turn, timed_output, timed_report, timed_room, timed_text, timed_turns, true, turn_count, turn_due, turn_text, turn_texts, turns_from, within, zero, ℕ, [], ◌*◌, ◌++◌, ◌+◌, ◌<◌, ◌^◌, ◌∷◌, ◌≡◌, ◌≤◌}
 use Rattle.lot_explain.proofs.ReadPrograms.{IsReadProgram, program-read}
 use Rattle.lot_explain.proofs.ShortTurns.{IsShort, opening-short, turn-keeps, turn-short}

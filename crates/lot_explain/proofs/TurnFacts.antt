@@ -1,4 +1,4 @@
--- What is written of a turn, with what explains it.
+-- The text written for a turn, with its explanation.
 use Rattle.lot_explain.proofs.Common.{Answered, Begins, Bool, Command, Detail, Ended, Err, Event, Gathered, HasJustMade, HasLots, IfSome, IoFault, IsExplained, IsPut, LineStyle, List, Loan, Lot, MadeTurn, Ok, Option, Program, Put, Reply, Result, Seen, Sizes, State, TurnAnswer, TurnMade, World, actor_event, answer_in, answer_text, ap, append_assoc, begins-front, codes, cond, console_turn, decimal, detail_text, explained_made, false, front, funding_in, loans_of, lots_of, lots_text, newline, next_name, opening_world, printed_actor, processor_turn, puts-both, puts-stop, refl, refused, reply_text, resolved, step, step-limits, style_at, subst, sym, system_turn, total_of, true, won_in, won_lines, world-one_more, world_of, ℕ, [], ◌++◌, ◌==◌, ◌∙◌, ◌∷◌, ◌≡◌}
 use Rattle.lot_machine.specs.declared.event.Event.TheVariants as event
 use Rattle.lot_playback.specs.declared.turn.Turn.{Turn as ATurn}

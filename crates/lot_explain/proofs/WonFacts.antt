@@ -1,6 +1,6 @@
--- What all lots of a lottery weigh together is what its number was drawn from, and the winner's lot has that number, and no other's.
+-- The total weight of a lottery's lots is the total of its draw, and only the winner's lot has the drawn number.
 use Rattle.lot_explain.proofs.Common.{Answered, Bool, Command, Compensation, Drawn, Event, HasNumber, IfSome, List, Lot, None, Option, Program, Refusal, Reply, Some, State, Step, TrapRefusal, Won, World, actor_event, ap, arith, checked_effect, compensation_of, cond, console_turn, draw, draw_lots, ends_quantum, event_effect, event_refusal, false, first_above, le-ltb, lot_of, lots_of, lt-ltb, ltb-false, ltb-true, map, mutex_at, mutex_lots, nat_lt, next_name, number_in, ready_threads, refl, resolved, running_sums, slice_index, step, subst, sum, sum-map, sum_by-cons, sym, system_turn, thread_there, total_of, trap_effect, trap_refusal, true, unless_refused, unlock, used_there, value_of, weight_of, winner, winner-is, won_in, ℕ, [], ◌%◌, ◌++◌, ◌+◌, ◌<◌, ◌==◌, ◌∙◌, ◌∷◌, ◌≡◌, ◌≤◌}
-use Rattle.lot_machine.specs.declared.action.Action.TheVariants as action
+use Rattle.lot_machine.specs.declared.trap.Trap.TheVariants as action
 use Rattle.lot_machine.specs.declared.event.Event.TheVariants as event
 use Rattle.lot_machine.specs.declared.reply.Reply.TheVariants as reply
 
@@ -146,11 +146,6 @@ module _ (s : State) (p ran m d : ℕ) where
 -- ---- each event
 
 step-won : (s : State) (e : Event) → HasWon (lots_of s e) e (step s e).reply
-step-won s (event.Command c) = tt
-step-won s (event.Expire p) = tt
-step-won s (event.Preempt p ticks) = tt
-step-won s (event.Overrun p late) = tt
-step-won s (event.Wake t) = tt
 step-won s (event.Draw p d) = refused-draw s p d (event_refusal s (event.Draw p d)) (draw s p d) (drawn-won s p d)
 step-won s (event.Trap p ran (action.Unlock m d)) =
     let e = event.Trap p ran (action.Unlock m d) in
@@ -158,14 +153,7 @@ step-won s (event.Trap p ran (action.Unlock m d)) =
     let effect = checked_effect s (trap_refusal s t (action.Unlock m d)) (trap_effect s t (action.Unlock m d)) in
     let ends = ends_quantum effect.after (used_there s p + ran + 1) s.limits.quantum in
     refused-unlock s p ran m d (event_refusal s e) (event_effect s e) (checked-won s p ran m d (trap_refusal s t (action.Unlock m d)) t t (ran + 1) ends)
-step-won s (event.Trap p ran action.Yield) = tt
-step-won s (event.Trap p ran action.Sleep) = tt
-step-won s (event.Trap p ran (action.Call port number)) = tt
-step-won s (event.Trap p ran (action.Receive port)) = tt
-step-won s (event.Trap p ran (action.Reply number)) = tt
-step-won s (event.Trap p ran (action.Serve port number)) = tt
-step-won s (event.Trap p ran (action.Lock mutex)) = tt
-step-won s (event.Trap p ran action.Exit) = tt
+step-won s e = tt
 
 -- ---- each turn
 

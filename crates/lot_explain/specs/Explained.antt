@@ -18,13 +18,13 @@ use Rattle.lot_explain.specs.declared.detail.Detail.TheVariants as detail
 use Rattle.lot_explain.specs.Funding.{funding_if_won}
 use Rattle.lot_explain.specs.Lots.{loans_of, lots_of, won_in, won_lines}
 
--- the lines of the lots of a turn's lottery and of the loans at it, given the state before the turn and its result;
--- none if no thread won one
+-- the lines of the lots and the loans of a turn's lottery, given the state before the turn and its result; none if no
+-- thread won
 abbrev pub lots_text : LineStyle → ℕ → State → TurnAnswer → List ℕ
 lots_text style actor s (Answered e r) = won_lines style s.limits.unit actor (lots_of s e) (loans_of s e) (won_in e r)
 lots_text style actor s Ended = []
 
--- the funding at a turn's lottery, if the explanation says so much and a thread won one
+-- the funding at a turn's lottery, if this detail has it and a thread won
 abbrev pub detail_text : Detail → LineStyle → ℕ → State → TurnAnswer → List ℕ
 detail_text detail.Lots style actor s answer = []
 detail_text detail.Funding style actor s (Answered e r) = funding_if_won (won_in e r) style s.limits.unit actor s

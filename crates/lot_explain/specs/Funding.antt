@@ -1,4 +1,4 @@
--- The funding at a lottery: the active tickets, and the currencies that they are of.
+-- The funding at a lottery: the active tickets, and the currencies that issue them.
 use Rattle.std.specs.Prelude.{ℕ, ◌==◌, Option, Some, None, List, [], ◌++◌, length, if◌then◌else◌}
 use Rattle.std.specs.List.{flat_map, range_with_len}
 use Rattle.lot_machine.specs.declared.row.CurrencyRow.{CurrencyRow}
@@ -15,7 +15,7 @@ use Rattle.lot_explain.specs.declared.detail.Detail.{Detail}
 use Rattle.lot_explain.specs.declared.detail.Detail.TheVariants.{Lots, Funding}
 use Rattle.lot_explain.specs.declared.won.Won.{Won}
 
--- the line of a ticket with this row, if it is there and active
+-- the line of a ticket with this row, if it exists and is active
 abbrev pub row_funds : LineStyle → ℕ → ℕ → ℕ → Option TicketRow → List ℕ
 row_funds style unit actor n None = []
 row_funds style unit actor n (Some row) = if row.is_active then ticket_funds_line style unit actor n row else []
@@ -24,7 +24,7 @@ row_funds style unit actor n (Some row) = if row.is_active then ticket_funds_lin
 abbrev pub ticket_funds : LineStyle → ℕ → ℕ → State → ℕ → List ℕ
 ticket_funds style unit actor s n = row_funds style unit actor n (ticket_row s n)
 
--- the line of a currency with this row, if it is there and an amount of it is active
+-- the line of a currency with this row, if it exists and has an active amount
 abbrev pub row_shared : LineStyle → ℕ → ℕ → ℕ → Option CurrencyRow → List ℕ
 row_shared style unit actor c None = []
 row_shared style unit actor c (Some row) = if row.active_amount == 0 then [] else currency_funds_line style unit actor c row
@@ -53,7 +53,7 @@ abbrev pub funding_if_won : Option Won → LineStyle → ℕ → ℕ → State �
 funding_if_won None style unit actor s = []
 funding_if_won (Some won) style unit actor s = funding_at won.lottery style unit actor s
 
--- the same, if the explanation says so much
+-- the same, if this detail has it
 abbrev pub funding_in : Detail → Option Won → LineStyle → ℕ → ℕ → State → List ℕ
 funding_in Lots won style unit actor s = []
 funding_in Funding won style unit actor s = funding_if_won won style unit actor s

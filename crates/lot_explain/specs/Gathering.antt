@@ -6,7 +6,7 @@ use Rattle.lot_print.specs.declared.loans.Loan.{Loan}
 use Rattle.lot_print.specs.declared.lots.Lot.{Lot}
 use Rattle.lot_explain.specs.Lots.{ready_lot}
 
--- the gathered lots and loans, and the largest number of threads
+-- the gathered lots and loans, and the capacity in threads
 pub record Gathered : Type 0 where
   pub lots : List Lot
   pub loans : List Loan

@@ -1,6 +1,6 @@
 -- The lots of a lottery: its entrants, with their weights and their numbers.
 use Rattle.std.specs.Prelude.{ℕ, ◌+◌, Option, Some, None, List, [], ◌∷◌, ◌++◌, map, sum_by, option_and_then, option_map, unwrap_or}
-use Rattle.lot_machine.specs.declared.action.Action.TheVariants as action
+use Rattle.lot_machine.specs.declared.trap.Trap.TheVariants as action
 use Rattle.lot_machine.specs.declared.event.Event.{Event}
 use Rattle.lot_machine.specs.declared.event.Event.TheVariants as event
 use Rattle.lot_machine.specs.declared.reply.Outcome.TheVariants.{Passed}
@@ -43,7 +43,7 @@ draw_lots s = map (ready_lot s) (ready_threads s.records)
 abbrev pub waiter_lot : State → ℕ → Lot
 waiter_lot s t = lot_of s t (value_of s t) None
 
--- the lots of the lottery of a mutex: those of its waiters, the one that has waited longest first (6.1)
+-- the lots of the lottery of a mutex: those of its waiters, the longest wait first (6.1)
 abbrev pub mutex_lots : State → ℕ → List Lot
 mutex_lots s m = map (waiter_lot s) (mutex_at s.mutexes m).waiters
 
@@ -64,7 +64,7 @@ lots_among s (Waiters m) = mutex_lots s m
 abbrev pub lots_of : State → Event → List Lot
 lots_of s e = lots_among s (entrants_in e)
 
--- The loans at the lottery of these entrants: all of them at a draw, where they are part of what the borrowers weigh.
+-- The loans at the lottery of these entrants: all of them at a draw, where they are part of the borrowers' weights.
 abbrev pub loans_among : State → Entrants → List Loan
 loans_among s Ready = all_loans s
 loans_among s other = []

@@ -15,7 +15,7 @@ use Rattle.lot_explain.specs.Explained.{explained_text}
 use Rattle.lot_explain.specs.Gathering.{Gathered}
 use Rattle.lot_explain.specs.Lots.{loans_of, lots_of}
 
--- what explains a turn, and then the turn's lines
+-- a turn's explanation, and then its lines
 abbrev pub explained_made : Detail → MadeTurn → List ℕ
 explained_made detail made = explained_text detail (style_at made.time) made.actor made.before made.turn
 
@@ -23,7 +23,7 @@ explained_made detail made = explained_text detail (style_at made.time) made.act
 abbrev pub explained_turns : Detail → List MadeTurn → List ℕ
 explained_turns detail turns = flat_map (explained_made detail) turns
 
--- what is gathered are the lots of the lottery that the actor's turn in this world may hold, and the loans at it
+-- the gathered lots and loans are those of the lottery that the actor's turn in this world may hold
 abbrev pub HasLots : Program → World → ℕ → Gathered → Type 0
 HasLots program w actor gathered = (event : Event) (reply : Reply) → (system_turn program w actor).answer ≡ Answered event reply
     → (gathered.lots ≡ lots_of w.state event) × (gathered.loans ≡ loans_of w.state event)

@@ -12,7 +12,7 @@ number_in (Winner t number total delivered) = Some number
 number_in (Trapped t ticks (Passed to (Some drawn)) ends) = Some drawn.0
 number_in other = None
 
--- The number is one of this lot's: they begin with the total weight of the lots before it, and are as many as its own
+-- The number is one of this lot's: these start with the total weight of the lots before it, and are as many as its own
 -- weight.
 pub record HasNumber (lots : List Lot) (number : ℕ) (lot : Lot) : Type 0 where
   pub before : List Lot

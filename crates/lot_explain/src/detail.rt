@@ -1,10 +1,10 @@
-//! How much an explanation says.
+//! The level of detail of an explanation.
 
-/// What an explanation says of a lottery that was won.
+/// The detail of an explanation of a won lottery.
 #[derive(Clone, Copy, Debug, PartialEq, Eq)]
 pub enum Detail {
     /// Its lots, and the loans at it.
     Lots,
-    /// The funding too: of a processor's lottery, in timed style.
+    /// The lots and loans, and before them in timed style the funding of a processor's lottery.
     Funding,
 }

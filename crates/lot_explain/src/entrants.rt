@@ -11,9 +11,9 @@ ghost use Rattle.lot_engine.specs.Steps.{event_given};
 ghost use Rattle.lot_explain.specs.Lots.{entrants_in};
 
 use lot_engine::{System, slice_in};
+use lot_machine::ScriptTrap;
 use lot_program::Program;
 use lot_script::Slice;
-use lot_simulation::{MutexTrap, ScriptTrap};
 
 /// The entrants of a lottery.
 #[derive(Clone, Copy, Debug, PartialEq, Eq)]
@@ -54,7 +54,7 @@ fn entrants_of_trap(trap: Option<ScriptTrap>) -> Entrants
         → result ≡ entrants_in (event_of_slice processor drawn done) }
 {
     match trap {
-        Some(ScriptTrap::OnMutex(MutexTrap::Unlock, mutex)) => Entrants::Waiters(mutex),
+        Some(ScriptTrap::Unlock(mutex, _)) => Entrants::Waiters(mutex),
         _ => Entrants::Nobody,
     }
 }

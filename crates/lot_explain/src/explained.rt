@@ -21,10 +21,11 @@ use lot_machine::{Event, Reply};
 use lot_playback::{Observer, Playback, Turn};
 use lot_print::{Heading, Page, write_ended};
 use lot_program::Program;
-use lot_system::{Warnings, heading, play_through, printed_actor, put_answer, style_of};
+use lot_simulation::Warnings;
+use lot_system::{heading, note_turn, play_through, printed_actor, put_answer, style_of};
 use std::io::Write;
 
-/// Writes the lots of each won lottery, with the loans at it, and a line for each turn, page by page, and records the
+/// Writes the lots of each won lottery and the loans at it, then a line for each turn, page by page, and records the
 /// warnings.
 #[derive(Drop)]
 struct Explained<'a, W> {
@@ -129,8 +130,8 @@ pub(crate) fn explain_turns<W: Write>(
     explained.write_out()
 }
 
-/// Puts the lines of a turn on the page, after the lots of its lottery and the loans at it, if a thread won it, and
-/// records its warning.
+/// Puts the lines of a turn on the page, after the lots and the loans of its lottery, if a thread won it, and records
+/// its warning.
 fn put_explained<W: Write>(
     system: &mut System,
     detail: Detail,
@@ -152,7 +153,7 @@ fn put_explained<W: Write>(
     if turn.has_ended {
         return write_ended(writer, page, heading);
     }
-    warnings.note(system, turn);
+    note_turn(warnings, system, turn);
     put_turn(
         system,
         detail,
@@ -165,8 +166,7 @@ fn put_explained<W: Write>(
     )
 }
 
-/// Puts the lines of a turn on the page, after the funding, the lots of its lottery and the loans at it, if a thread
-/// won it.
+/// Puts the lines of a turn on the page, after the funding, the lots and the loans of its lottery, if a thread won it.
 fn put_turn<W: Write>(
     system: &mut System,
     detail: Detail,
@@ -192,7 +192,7 @@ fn put_turn<W: Write>(
     put_lots_and_answer(system, heading, event, reply, lots, writer, page)
 }
 
-/// Puts the lines of a turn on the page, after the lots of its lottery and the loans at it, if a thread won it.
+/// Puts the lines of a turn on the page, after the lots and the loans of its lottery, if a thread won it.
 fn put_lots_and_answer<W: Write>(
     system: &mut System,
     heading: Heading,

@@ -12,14 +12,16 @@ use crate::gathering::Lots;
 use lot_io::{IoFault, Watched};
 use lot_playback::Playback;
 use lot_program::Program;
-use lot_system::{Played, Warnings, end_play, refuse};
+use lot_simulation::Warnings;
+use lot_system::{Played, end_play, refuse};
 use lot_text::{ParseFault, parse};
 use std::alloc::Global;
 use std::io::Write;
 
 /// Makes the turns of the input in `bytes`, and writes the output of `play`, with the lots of each won lottery before
-/// its line; or one line, if the input is refused. It stores the run's warnings in `warnings`, also whether a refusal
-/// ended it. It allocates all its memory before the first turn.
+/// its line; or one line for a refused input. It stores the run's warnings in `warnings`, and whether a refusal ended
+/// the run. It allocates all its memory before the first turn. Fails with `Memory` before it has written anything, and
+/// with `Write` if the writer fails.
 pub fn explain_bytes<W: Write>(
     alloc: Global,
     detail: Detail,
@@ -43,8 +45,9 @@ pub fn explain_bytes<W: Write>(
 }
 
 /// Explains the program in a system of its own: makes its turns, and writes the output of `play`, with the lots of each
-/// won lottery before its line. It stores the run's warnings in `warnings`, also whether a refusal ended it. It
-/// allocates all its memory before the first turn.
+/// won lottery before its line. It stores the run's warnings in `warnings`, and whether a refusal ended the run. It
+/// allocates all its memory before the first turn. Fails with `Memory` before it has written anything, and with `Write`
+/// if the writer fails.
 pub fn explain_program<W: Write>(
     alloc: Global,
     detail: Detail,

@@ -16,8 +16,8 @@ use lot_print::{Heading, Lottery, Page, write_currency_funds, write_ticket_funds
 use lot_simulation::LineStyle;
 use std::io::Write;
 
-/// If so much is to be said, and the event held a processor's lottery that a thread won, according to the reply, writes
-/// the funding in timed style. It writes the page first.
+/// In this detail, if a thread won a processor's lottery in the event, according to the reply, writes the funding in
+/// timed style. It writes the page first.
 pub(crate) fn put_funding<W: Write>(
     system: &mut System,
     detail: Detail,
@@ -101,7 +101,7 @@ fn write_tickets<W: Write>(
     Ok(())
 }
 
-/// Writes the line of the ticket with this number, if it is there and active.
+/// Writes the line of the ticket with this number, if it exists and is active.
 fn write_ticket<W: Write>(
     settled: Settled<'_>,
     heading: Heading,
@@ -140,7 +140,7 @@ fn write_currencies<W: Write>(
     Ok(())
 }
 
-/// Writes the line of the currency with this number, if it is there and an amount of it is active.
+/// Writes the line of the currency with this number, if it exists and has an active amount.
 fn write_currency<W: Write>(
     settled: Settled<'_>,
     heading: Heading,

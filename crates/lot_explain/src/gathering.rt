@@ -20,13 +20,13 @@ use lot_program::Program;
 use std::alloc::{AllocError, Global};
 use std::marker::Model;
 
-/// The lots of a lottery and the loans at it, with room for those of all threads.
+/// The lots of a lottery and the loans at it, with capacity for those of all threads.
 pub(crate) struct Lots {
     lots: Vec<Lot>,
     loans: Vec<Loan>,
     /// The waiters of the mutex.
     waiters: Stack<u32>,
-    /// The largest number of threads.
+    /// The capacity, in threads.
     room: u32,
 }
 
@@ -58,8 +58,8 @@ impl Model for Lots {
 }
 
 impl Lots {
-    /// Room for the lots and loans of this many threads, and none yet. It allocates all the memory that will ever be
-    /// used.
+    /// No lots or loans, with capacity for those of `threads` threads. It allocates all the memory that it will ever
+    /// use, and fails only if out of memory.
     pub(crate) fn open(alloc: Global, threads: u32) -> Result<Lots, AllocError>
         ensures { IfOk result (λ lots. lots ≡ record { lots = []; loans = []; room = threads }) }
     {
@@ -85,8 +85,7 @@ impl Lots {
         &self.loans
     }
 
-    /// Gathers the lots of the lottery that the actor's next turn may hold, and the loans at it. It allocates no
-    /// memory.
+    /// Gathers the lots of the lottery that the actor's next turn may hold, and the loans at it. It allocates nothing.
     pub(crate) fn gather(&mut self, program: &Program, system: &mut System, actor: u32)
         requires program { system.old.setting.program ≡ program.now }
         requires room { self.old.room ≡ program.now.limits.threads }
@@ -148,7 +147,7 @@ fn push_if_ready(lots: &mut Vec<Lot>, system: &mut System, thread: u32)
     }
 }
 
-/// What scales the value of the thread with this row to its weight, if it is compensated.
+/// The compensation that scales the thread's value to its weight, if it has one.
 fn compensation_of(system: &System, thread: u32, row: &ThreadRow) -> Option<Compensation>
     requires { row.now.value ≡ value_of (world_of system.now).state thread }
     ensures { result ≡ spec.compensation_of (world_of system.now).state thread }
@@ -176,7 +175,7 @@ fn push_waiters(lots: &mut Vec<Lot>, settled: Settled<'_>, waiters: &[u32])
     }
 }
 
-/// Adds the lot of a thread that waits for a mutex: it isn't dead, so it wasn't removed.
+/// Adds the lot of a thread that waits for a mutex. It isn't dead, so it wasn't removed.
 fn push_waiter(lots: &mut Vec<Lot>, settled: Settled<'_>, thread: u32)
     requires there { HasRow settled.kernel.now.state thread }
     requires room { vec_len lots.old < vec_capacity lots.old }

@@ -26,16 +26,16 @@ ghost use Rattle.lot_explain.specs.Numbers.{HasNumber, number_in};
 ghost use Rattle.lot_explain.specs.Short.{HasShortName, line_bytes, turn_count};
 ghost use Rattle.lot_explain.specs.declared.won.Won.{Won};
 
-/// The output of `explain` is the explanation of each of the program's turns, and then the report, with a schedule
+/// The output of `explain` is the explanation of each of the program's turns, followed by the report, for a schedule
 /// and for a timed program.
 pub fn explanations_are_those_of_the_turns()
     ensures { (detail : Detail) (program : Program) → explained_program detail program program.duration
         ≡ explained_turns detail (program_turns program) ++ last_report program program.duration }
 {}
 
-/// An explanation without the funding is longer than the output of `play` by at most 139 bytes for each pair of a
-/// turn and a possible thread, and in time by at most 183, if sizes are within their bounds, names of threads have at
-/// most 16 bytes, and times have 32 bits. Every accepted input meets these.
+/// An explanation without the funding is longer than the output of `play` by at most 139 bytes for each pair of a turn
+/// and a possible thread, and for a timed program by at most 183, if sizes are within their bounds, names of threads
+/// have at most 16 bytes, and times have 32 bits. Every accepted input meets these premises.
 pub fn explanations_are_short()
     ensures scheduled { (program : Program) → IsWithinBounds program.limits → All HasShortName program.commands
         → length (explained_schedule Lots program)
@@ -50,8 +50,8 @@ pub fn explanations_are_short()
         + turn_count program program.duration * (program.limits.threads * line_bytes program.duration) }
 {}
 
-/// In each world that a program reaches a compensated thread's weight is its value times the quantum by the ticks that
-/// it used, rounded down. Any other thread's weight is its value.
+/// In each world that a program reaches a compensated thread's weight is its value times the quantum over the ticks
+/// that it used, rounded down. Any other thread's weight is its value.
 pub fn reasons_give_the_weights()
     ensures compensated { (program : Program) (actors : List ℕ) (t : ℕ) (reason : Compensation)
         → compensation_of (system_run program actors).state t ≡ Some reason
@@ -59,7 +59,7 @@ pub fn reasons_give_the_weights()
     ensures other { (s : State) (t : ℕ) → compensation_of s t ≡ None → weight_of s t ≡ value_of s t }
 {}
 
-/// Each loan is a lend of the machine: a thread lends all its value, which isn't 0, to the one that is named.
+/// Each loan is a lend of the machine: a thread lends all its value, which isn't 0, to the borrower of the loan.
 pub fn loans_are_lends()
     ensures { (s : State) → All (IsLent s) (all_loans s) }
 {}

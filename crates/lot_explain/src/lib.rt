@@ -1,6 +1,6 @@
-//! Explains a play: the output of `play` with the lots of each won lottery before its line: the entrants, with their
-//! weights and their ranges of numbers. So each draw can be checked by hand. In timed style a compensated thread's lot
-//! says why it weighs more than its value, and a line for each blocked thread says what it lends, and whom to.
+//! Explains a play: the output of `play` with the lots of each won lottery before its line. The lots are the entrants,
+//! with their weights and their ranges of numbers, so a reader can check each draw by hand. In timed style a
+//! compensated thread's lot gives the reason for its weight, and each blocked thread has a line with its loan.
 //!
 //! Its tests stand in `lot_system_tests`.
 #![tactic(auto)]

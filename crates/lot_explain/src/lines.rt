@@ -14,8 +14,8 @@ use lot_print::{Heading, Loan, Lot, Page, write_loan, write_lot};
 use lot_simulation::LineStyle;
 use std::io::Write;
 
-/// If the event held a lottery that a thread won, according to the reply, writes the lines of its lots and of the loans
-/// at it. It writes the page first.
+/// If a thread won a lottery in the event, according to the reply, writes the lines of its lots and of the loans at it.
+/// It writes the page first.
 pub(crate) fn put_lots<W: Write>(
     heading: Heading,
     event: &Event,

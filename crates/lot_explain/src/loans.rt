@@ -37,7 +37,7 @@ fn push_if_lends(loans: &mut Vec<Loan>, settled: Settled<'_>, thread: u32)
     }
 }
 
-/// The thread that one with this status lends to directly, if it lends.
+/// The direct borrower from a thread with this status, if it lends.
 fn borrower_of(settled: Settled<'_>, status: Status) -> Option<u32>
     ensures { result ≡ lends_to settled.entry.kernel.now.state status }
 {
@@ -48,7 +48,7 @@ fn borrower_of(settled: Settled<'_>, status: Status) -> Option<u32>
     }
 }
 
-/// Adds the loan of a thread with this row to another, if it is worth anything and the other exists.
+/// Adds the loan of a thread with this row to another, if its value is above 0 and the other exists.
 fn push_loan(loans: &mut Vec<Loan>, settled: Settled<'_>, thread: u32, row: ThreadRow, to: u32)
     requires room { vec_len loans.old < vec_capacity loans.old }
     ensures loans { loans.new.items ≡ loans.old.items ++ loan_to settled.entry.kernel.now.state thread row (Some to) }

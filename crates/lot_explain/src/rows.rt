@@ -76,7 +76,7 @@ pub fn refused_inputs()
 {}
 
 /// A timed input: each line begins with its time, numbers have digits after the point, and a compensated thread's line
-/// has the reason of its weight (4.5).
+/// gives the reason for its weight (4.5).
 #[tactic(auto, unfolding(crate::specs::OnLiterals::texts_on_literals, lot_simulation::specs::Timed::timed_room))]
 pub fn in_time()
     ensures { explained_output Lots (text (codes "lottery 3" ∷ codes "quantum 9" ∷ codes "for 12" ∷ codes "seed 5"
@@ -95,7 +95,7 @@ pub fn in_time()
         ∷ codes "total turns 7 quanta 3 ticks 12 refused 0 left 0" ∷ []) }
 {}
 
-/// Three threads that share 100 of base: digits after the third are cut off (4.4).
+/// Three threads that share 100 of base: values are truncated after the third digit (4.4).
 #[tactic(auto, unfolding(crate::specs::OnLiterals::texts_on_literals, lot_simulation::specs::Timed::timed_room))]
 pub fn behind_the_point()
     ensures { explained_output Lots (text (codes "lottery 3" ∷ codes "for 1" ∷ codes "script s" ∷ codes "compute 5"
@@ -114,8 +114,7 @@ pub fn behind_the_point()
         ∷ codes "total turns 7 quanta 1 ticks 0 refused 0 left 0" ∷ []) }
 {}
 
-/// A client that is served lends its value to its server (4.6). A compensated server weighs more by what it is lent,
-/// too.
+/// A served client lends its value to its server (4.6). The loan also raises a compensated server's weight.
 #[tactic(auto, unfolding(crate::specs::OnLiterals::texts_on_literals, lot_simulation::specs::Timed::timed_room))]
 pub fn serving()
     ensures { explained_output Lots (text (codes "lottery 3" ∷ codes "quantum 9" ∷ codes "for 3" ∷ codes "seed 4"
@@ -156,8 +155,8 @@ pub fn waiting()
         ∷ codes "total turns 8 quanta 3 ticks 4 refused 0 left 0" ∷ []) }
 {}
 
-/// The funding: two threads share what a currency is worth as 3 to 1 (4.4). Its third ticket funds nothing, so it isn't
-/// active. A thread that waits for a mutex is funded too, and lends what it is worth.
+/// The funding: two threads share a currency's value as 3 to 1 (4.4). The currency's third ticket funds nothing, so it
+/// isn't active. A thread that waits for a mutex is funded too, and lends its value.
 #[tactic(auto, unfolding(crate::specs::OnLiterals::texts_on_literals, lot_simulation::specs::Timed::timed_room))]
 pub fn funded()
     ensures { explained_output Funding (text (codes "lottery 3" ∷ codes "quantum 9" ∷ codes "for 4" ∷ codes "seed 2"

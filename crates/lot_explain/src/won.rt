@@ -1,6 +1,6 @@
 //! Won lotteries.
 ghost use Rattle.std.specs.Prelude.{◌≡◌, ℕ};
-ghost use Rattle.lot_machine.specs.declared.action.Action.TheVariants as action;
+ghost use Rattle.lot_machine.specs.declared.trap.Trap.TheVariants as action;
 ghost use Rattle.lot_machine.specs.declared.event.Event.TheVariants as event;
 ghost use Rattle.lot_explain.specs.Lots as lots;
 
@@ -11,13 +11,12 @@ use lot_print::Lottery;
 #[derive(Clone, Copy, Debug)]
 pub(crate) struct Won {
     pub(crate) lottery: Lottery,
-    /// The winner.
     pub(crate) winner: u32,
     /// The total weight of all lots.
     pub(crate) total: u128,
 }
 
-/// The lottery that an event held, according to the reply; none if no thread won.
+/// The lottery that an event held, according to the reply; `None` if no thread won.
 pub(crate) fn won_in(event: &Event, reply: Reply) -> Option<Won>
     ensures { result ≡ lots.won_in event.now reply }
 {
@@ -28,7 +27,7 @@ pub(crate) fn won_in(event: &Event, reply: Reply) -> Option<Won>
     }
 }
 
-/// The lottery that a draw held, according to the reply; none if no thread won.
+/// The lottery that a draw held, according to the reply; `None` if no thread won.
 fn won_in_draw(reply: Reply) -> Option<Won>
     ensures { (processor number : ℕ) → result ≡ lots.won_in (event.Draw processor number) reply }
 {
@@ -42,7 +41,7 @@ fn won_in_draw(reply: Reply) -> Option<Won>
     }
 }
 
-/// The lottery that an unlock held, according to the reply; none if no thread won.
+/// The lottery that an unlock held, according to the reply; `None` if no thread won.
 fn won_in_unlock(reply: Reply) -> Option<Won>
     ensures { (processor ran mutex number : ℕ)
         → result ≡ lots.won_in (event.Trap processor ran (action.Unlock mutex number)) reply }

@@ -1,4 +1,4 @@
--- A search against the edges: the edges into a node, whose tails it adds, and that it finds what is above.
+-- A search against the edges: it adds the tails of the edges into a node, and finds the nodes above.
 use Rattle.lot_graph.proofs.Common.{Contains, Contains-append_right, Currency, Edge, Finds, FitsIn, Funding, HasEachOnce, IfNone, IfSome, IsAbove, IsBack, IsConsistent, IsEdge, IsEdgeWithin, IsFoundList, IsFree, IsNext, IsNodeOf, IsNodeWithin, IsSome, IsTrail, IsWay, Layout, LeadsInto, LimitedFunding, List, Mutex, Node, NodeLists, OfLender, OfMutex, OfTicket, Option, Reaches, Some, Spreads, Thread, ap, append-nil, append_assoc, arith, contains-mapped, ends_of, found_nodes, layout_of, map, mapped-contains, node_count, node_of, node_place, nodes_of, option_map, refl, some-injective, subst, sym, tail_of, zero, ℕ, [], ◌++◌, ◌+◌, ◌<◌, ◌↔◌, ◌∙◌, ◌∷◌, ◌≡◌}
 use Rattle.lot_graph.proofs.CycleLemmas.{list-test}
 use Rattle.lot_graph.proofs.SpreadLemmas.{IsOfSome, found-low, lender-tail, list-back, mutex-tail, node-back, spread-by, ticket-tail}

@@ -1,4 +1,4 @@
--- What a search against the edges has found, as the contracts of `Above` see it.
+-- The nodes found by a search against the edges, in the contracts of `Above`.
 use Rattle.std.specs.Prelude.{◌↔◌, ℕ, List, Contains}
 use Rattle.lot_machine.specs.declared.funding.Node.{Node}
 use Rattle.lot_machine.specs.declared.funding.Node.TheVariants.{Currency}
@@ -6,7 +6,7 @@ use Rattle.lot_machine.specs.Funding.{Funding}
 use Rattle.lot_graph.specs.declared.layout.Layout.{Layout}
 use Rattle.lot_graph.specs.Graphs.{Reaches}
 
--- the layout of the graphs that are searched, and the nodes that the last search found
+-- the layout of the graphs to search, and the nodes that the last search found
 pub record FoundNodes : Type 0 where
   pub layout : Layout
   pub nodes : List Node

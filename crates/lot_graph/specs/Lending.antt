@@ -1,4 +1,4 @@
--- What the slots of the tickets end as, where a `&mut` to one of them is returned; no public clause cites this file.
+-- The slots of the tickets after a returned `&mut` to one of them ends; no public clause cites this file.
 use Rattle.std.specs.Prelude.{ℕ}
 use Rattle.std.specs.Borrow.{Lends, Fml, RattleType, MutBor}
 use Rattle.slab.specs.Slab.{Slab, with_value}

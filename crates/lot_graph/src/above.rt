@@ -14,10 +14,10 @@ use std::alloc::{AllocError, Global};
 use std::marker::Model;
 
 /// A search for the nodes above a node: those from which a path of edges, perhaps empty, leads to it. Only `new`
-/// allocates memory.
+/// allocates.
 #[derive(Drop)]
 pub struct Above {
-    // The places of the found nodes, in one list.
+    // The places of the nodes found, in one list.
     found: Lists,
     layout: Layout,
 }
@@ -34,7 +34,7 @@ impl Model for Above {
 }
 
 impl Above {
-    /// A search that has found nothing yet, for graphs with this layout.
+    /// A search for graphs with this layout, with nothing found.
     ///
     /// Fails with `AllocError` if out of memory, or if a `u32` can't number all nodes of the layout.
     pub fn new(alloc: Global, layout: Layout) -> Result<Self, AllocError>
@@ -47,22 +47,22 @@ impl Above {
         })
     }
 
-    /// The total of bytes that `new` requests from the allocator, for graphs with this layout.
+    /// The number of bytes that `new` requests from the allocator for graphs with this layout.
     pub fn bytes(layout: Layout) -> u64
         ensures { result ≡ 12 * node_count layout + 8 }
     {
         Lists::bytes(1, layout.node_count())
     }
 
-    /// The bytes that it has room for: those that `new` requested, whatever has happened since.
+    /// The capacity in bytes: always exactly what `new` requested.
     pub fn held(&self) -> u64
         ensures { result ≡ 12 * node_count self.now.layout + 8 }
     {
         self.found.held()
     }
 
-    /// Finds the nodes from which a path of edges, perhaps empty, leads to this one, in place of those found before. It
-    /// reads each edge into them once.
+    /// Finds the nodes from which a path of edges, perhaps empty, leads to this one. They replace those found before.
+    /// It reads each edge into them once.
     pub fn find(&mut self, graph: &Graph, node: Node)
         requires layout { self.old.layout ≡ layout_of graph.now }
         requires node { IsNodeOf graph.now node }
@@ -95,8 +95,8 @@ impl Steps for Graph {
     }
 }
 
-/// The node that an edge leads out of: the issuer of a ticket, the thread that lends, or the mutex that is owned. It
-/// doesn't look at where the edge leads.
+/// The node that an edge leads out of: the issuer of a ticket, the thread that lends, or the owned mutex. It doesn't
+/// read the edge's other end.
 fn tail_of(graph: &Graph, edge: Edge) -> Option<Node>
     requires within { IsEdgeWithin (layout_of graph.now) edge }
     ensures { result ≡ edge_tail graph.now.funding edge }

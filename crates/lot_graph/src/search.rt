@@ -10,15 +10,15 @@ use crate::layout::Layout;
 use lot_lists::Lists;
 use lot_machine::Node;
 
-/// The steps of a search: which nodes come next after a node.
+/// The steps of a search from node to node.
 pub(crate) trait Steps {
     // a step leads from one node to another
     ghost leads: { Self → Node → Node → Type 0 };
 
-    // they can be made between the nodes of this layout
+    // the steps are between nodes of this layout
     ghost fit: { Self → Layout → Type 0 };
 
-    /// Adds the nodes that come next after this one.
+    /// Adds the nodes one step after this one.
     fn add_next(&self, layout: Layout, found: &mut Lists, node: Node)
         requires fit { fit self.now layout }
         requires list { IsFoundList layout found.old }
@@ -40,7 +40,7 @@ pub(crate) fn find<S: Steps>(steps: &S, layout: Layout, found: &mut Lists, from:
     let start = layout.list_of(from);
     add(found, start);
     let mut next = Some(start);
-    // As many iterations as there are nodes: each follows the next found one.
+    // As many iterations as there are nodes: each follows the next node found.
     for _ in 0..layout.node_count() {
         let Some(place) = next else {
             return;
@@ -63,7 +63,7 @@ fn clear(found: &mut Lists)
     }
 }
 
-/// Adds the place of a node to those found, unless it is among them.
+/// Adds the place of a node, unless it was found before.
 fn add(found: &mut Lists, place: usize)
     requires list { length found.old.lists ≡ 1 }
     requires within { place < found.old.nodes }
@@ -75,7 +75,7 @@ fn add(found: &mut Lists, place: usize)
     }
 }
 
-/// Adds a node to those found, if there is one and it isn't among them.
+/// Adds a node, if there is one and it wasn't found before.
 pub(crate) fn add_node(found: &mut Lists, layout: Layout, node: Option<Node>)
     requires list { IsFoundList layout found.old }
     requires within { IfSome node (IsNodeWithin layout) }

@@ -1,4 +1,4 @@
-//! A slab that takes no memory after it is made.
+//! A slab that allocates only when it is made.
 ghost use Rattle.std.specs.Prelude.{◌≡◌, ◌+◌, [], IfOk, None, Some, option_copied};
 ghost use Rattle.std.specs.Borrow.{sem};
 ghost use Rattle.slab.specs.Slab.{ContainsKey, HasRoomFor, Updates, get, slab_len};
@@ -8,8 +8,8 @@ use std::alloc::{AllocError, Global};
 use std::marker::Model;
 use std::ops::{Index, IndexMut};
 
-/// A slab with room for a fixed number of values. It lets out its values alone: the slab's methods that take memory,
-/// or give some back, are in nobody's reach.
+/// A slab of fixed capacity. It lends out its values alone, so no caller reaches a method of the slab that allocates or
+/// frees.
 #[derive(Drop)]
 pub(crate) struct Slots<T> {
     slab: Slab<T>,
@@ -26,13 +26,13 @@ impl<T> Model for Slots<T> {
 }
 
 impl<T: Drop> Slots<T> {
-    /// No values, and room for exactly this many, or an error if out of memory.
+    /// An empty slab with capacity for exactly `room` values. It fails only if out of memory.
     pub(crate) fn new(alloc: Global, room: usize) -> Result<Self, AllocError>
         ensures empty { IfOk result (λ made. made.slots ≡ []) }
         ensures room { IfOk result (λ made. made.capacity ≡ room) }
     {
         let slab = Slab::with_capacity(alloc, room)?;
-        // It has room for exactly this many, but none of its clauses says so.
+        // The capacity is exact, but none of the slab's clauses says so.
         if slab.capacity() != room {
             return Err(AllocError);
         }
@@ -41,14 +41,14 @@ impl<T: Drop> Slots<T> {
 }
 
 impl<T> Slots<T> {
-    /// The number of values that there is room for.
+    /// The capacity, in values.
     pub(crate) fn room(&self) -> usize
         ensures { result ≡ self.now.capacity }
     {
         self.slab.capacity()
     }
 
-    /// Adds a value where there is room for it, under the key that it returns.
+    /// Adds a value under the key that it returns. The slab must not be full.
     pub(crate) fn insert(&mut self, value: T) -> usize
         requires { HasRoomFor self.old 1 }
         ensures was_vacant { get self.old result ≡ None }

@@ -1,4 +1,4 @@
--- What is read in pieces.
+-- Bytes read in pieces.
 use Rattle.std.proofs.Common.{◌≡◌, ℕ, ◌+◌, ◌≤◌, Option, Some, None, List, [], ◌++◌, length, take, refl, ◌∙◌, ap, sym, subst, append_assoc, length-append, arith}
 use Rattle.std.specs.Io.KnownBytes.{Consumes}
 use Rattle.std.proofs.lemmas.List.{length-take}

@@ -5,7 +5,7 @@ use Rattle.lot_io.specs.Watching.{Watch}
 use Rattle.lot_io.specs.declared.fault.IoFault.{IoFault}
 use Rattle.lot_io.specs.declared.fault.IoFault.TheVariants.{Memory, Read, Write}
 
--- These are the bytes read of the remaining ones: all of them, or one more than an input may have.
+-- the bytes read of the remaining ones: all of them, or one more than an input may have
 pub record HasRead (left rest : Option (List ℕ)) (bytes : List ℕ) : Type 0 where
   pub consumed : Consumes left rest bytes
   pub most : length bytes ≤ 16777217
@@ -15,7 +15,7 @@ pub record HasRead (left rest : Option (List ℕ)) (bytes : List ℕ) : Type 0 w
 abbrev pub Reads : {T : Type 0} → (T → Option (List ℕ)) → Watch T → Watch T → List ℕ → Type 0
 Reads remaining old new bytes = HasRead (remaining old.inner) (remaining new.inner) bytes
 
--- this many bytes were read, none only at the end, and appended to the earlier ones
+-- this many bytes were read, 0 only at the end, and appended to the earlier ones
 pub record HasTaken (left rest : Option (List ℕ)) (old now : List ℕ) (count : ℕ) : Type 0 where
   pub taken : List ℕ
   pub count_is : length taken ≡ count

@@ -6,13 +6,14 @@ use crate::{IoFault, Watched};
 use std::alloc::Global;
 use std::io::Read;
 
-/// The most bytes read of an input: one more than an input may have.
+/// The most bytes that it reads: one more than an input may have.
 const MOST: usize = 16777217;
 
 /// The number of bytes read at a time.
 const PIECE: usize = 65536;
 
-/// Reads to the end of the input, or to its byte 16777217, and leaves the rest unread.
+/// Reads to the end of the input, or to its byte 16777217, and leaves the rest unread. Fails with `Read` if the reader
+/// fails, and with `Memory` if out of memory.
 pub fn read_input<R: Read>(alloc: Global, reader: &mut Watched<R>) -> Result<Vec<u8>, IoFault>
     requires { reader.old.failed ≡ false }
     ensures read { IfOk result (λ bytes. Reads R.remaining reader.old reader.new bytes.items) }
@@ -35,7 +36,7 @@ pub fn read_input<R: Read>(alloc: Global, reader: &mut Watched<R>) -> Result<Vec
     Ok(bytes)
 }
 
-/// Reads once, appends the read bytes, and returns their number: 0 only at the end.
+/// Reads once, appends the bytes, and returns their number: 0 only at the end.
 fn read_piece<R: Read>(
     reader: &mut Watched<R>,
     room: &mut [u8],

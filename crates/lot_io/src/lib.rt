@@ -1,5 +1,5 @@
-//! Reading and writing: readers and writers that remember whether they have failed, the reading of an input, and one
-//! fault for both.
+//! Reading and writing: readers and writers that remember a failure, the reading of an input, and one fault type for
+//! both.
 #![tactic(auto)]
 
 mod fault;

@@ -1,4 +1,5 @@
-//! Tests of what no clause says: the calls that reach a watched reader or writer, and that an input is read.
+//! Tests of promises outside contracts: the number of calls that reach a watched reader or writer, and reading an
+//! input.
 ghost use Rattle.std.specs.Prelude.{◌≤◌, IfOk};
 
 use crate::{Watched, read_input};
@@ -8,7 +9,7 @@ use std::io::{Error, ErrorKind, Read, Write};
 use std::process::Abort;
 use std::test::Fail;
 
-/// A reader and writer of single bytes, whose k-th call fails: with an error of this kind, or by taking nothing.
+/// A reader and writer of single bytes, whose k-th call fails: with an error of this kind, or by accepting nothing.
 #[derive(Drop)]
 struct Failing {
     calls: u32,
@@ -17,7 +18,7 @@ struct Failing {
 }
 
 impl Failing {
-    /// The count of one more call.
+    /// Counts one more call.
     fn call(&mut self) -> io::Result<usize>
         ensures { IfOk result (λ n. n ≤ 1) }
     {
@@ -112,7 +113,7 @@ fn keeps_failures(rt: HostRuntime) {
     }
 }
 
-/// A writer that keeps whether all that it took was flushed, and whose flushes fail.
+/// A writer that records whether all its bytes were flushed, and whose flushes fail.
 #[derive(Drop)]
 struct Flushing {
     is_flushed: bool,
@@ -153,7 +154,7 @@ fn is_flushed(writer: Watched<Flushing>) -> bool {
     is_flushed
 }
 
-// No clause can tell a flush that isn't handed on.
+// No clause can tell whether a flush reaches the writer.
 #[test]
 fn hands_flushes_on(rt: HostRuntime) {
     for fails in [false, true] {
@@ -256,8 +257,7 @@ fn make(watched: &mut Watched<Failing>, call: Call) -> bool {
     }
 }
 
-/// Makes this many such calls of a reader or writer that fails in this way, and compares the number that have reached
-/// it.
+/// Makes this many such calls of a reader or writer that fails in this way, and compares the number that reached it.
 fn check_reaching(
     rt: &impl Abort,
     row: Reaching,
@@ -285,8 +285,8 @@ fn check_failing(rt: &impl Abort, failure: (Option<ErrorKind>, u32)) {
     }
 }
 
-// Each call reaches the reader or writer once, and `write_all` once for each byte, up to the first failure: nothing is
-// tried again.
+// Each call reaches the reader or writer once, and `write_all` once for each byte, up to the first failure: the wrapper
+// retries nothing.
 #[test]
 fn calls_that_reach(rt: HostRuntime) {
     for kind in [Some(ErrorKind::Other), Some(ErrorKind::Interrupted), None] {

@@ -1,4 +1,4 @@
-//! Readers and writers that remember whether they have failed.
+//! Readers and writers that remember a failure.
 ghost use Rattle.std.specs.Prelude.{◌≡◌, ◌==◌, ◌||◌, ◌&&◌, true, false, is_err, is_ok, length, IsTrue, IsErr, OnOk};
 ghost use Rattle.std.specs.Io.{ReadsAtMost, WritesAtMost};
 ghost use Rattle.std.specs.Io.KnownBytes.{Appends, Keeps, ReadConsumes, WriteAppends};
@@ -8,8 +8,8 @@ use std::io;
 use std::io::{Error, ErrorKind, Read, Write};
 use std::marker::Model;
 
-/// A reader or a writer that remembers whether it has failed, and passes no call on once it has. It retries no failed
-/// call, not even an interrupted one. For a writer it also remembers whether all accepted bytes have been flushed.
+/// A reader or a writer that remembers a failure, and passes no call on after one. It retries no failed call, not even
+/// an interrupted one. For a writer it also remembers whether all accepted bytes have been flushed.
 #[derive(Debug, Drop)]
 pub struct Watched<T> {
     inner: T,
@@ -26,7 +26,7 @@ impl<T> Model for Watched<T> {
 }
 
 impl<T> Watched<T> {
-    /// Watches this reader or writer, which hasn't failed yet, and has accepted nothing.
+    /// Watches this reader or writer, with no failure yet and nothing accepted.
     pub fn new(inner: T) -> Self
         ensures { result ≡ record { inner = inner; failed = false; flushed = true } }
     {
@@ -37,7 +37,7 @@ impl<T> Watched<T> {
         }
     }
 
-    /// Whether a call of the reader or writer has returned an error, or a write of some bytes has accepted none.
+    /// Whether a call of the reader or writer has returned an error, or a write of at least one byte has accepted none.
     pub fn failed(&self) -> bool
         ensures { result ≡ self.now.failed }
     {
@@ -51,7 +51,7 @@ impl<T> Watched<T> {
         self.flushed
     }
 
-    /// The reader or writer itself.
+    /// The reader or writer.
     pub fn into_inner(self) -> T
         ensures { result ≡ self.inner }
     {

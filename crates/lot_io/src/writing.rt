@@ -1,11 +1,11 @@
-//! Writing to a writer that remembers whether it has failed.
+//! Writing to a watched writer.
 ghost use Rattle.std.specs.Prelude.{◌≡◌, [], false, true, OnOk};
 ghost use Rattle.lot_io.specs.Writing.{Writes};
 
 use crate::{IoFault, Watched};
 use std::io::Write;
 
-/// Writes the bytes. It retries no failed write.
+/// Writes the bytes. It retries no failed write. Fails with `Write` if the writer fails.
 #[inline(always)]
 pub fn write_bytes<W: Write>(writer: &mut Watched<W>, bytes: &[u8]) -> Result<(), IoFault>
     requires { writer.old.failed ≡ false }
@@ -17,7 +17,7 @@ pub fn write_bytes<W: Write>(writer: &mut Watched<W>, bytes: &[u8]) -> Result<()
     }
 }
 
-/// Flushes the writer, and writes nothing.
+/// Flushes the writer, and writes nothing. Fails with `Write` if the writer fails.
 pub fn flush<W: Write>(writer: &mut Watched<W>) -> Result<(), IoFault>
     requires { writer.old.failed ≡ false }
     ensures flushed { OnOk result (writer.new.flushed ≡ true) }

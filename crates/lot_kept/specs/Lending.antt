@@ -1,4 +1,4 @@
--- What a table ends as, where a `&mut` to its elements is returned.
+-- A table after a returned `&mut` to its elements ends.
 use Rattle.std.specs.Prelude.{ℕ, List, slice_set}
 use Rattle.std.specs.Borrow.{Lends, Array, Fml, RattleType, MutBor}
 use Rattle.lot_kept.specs.Table.{Full, Stacked, rewritten}
@@ -14,7 +14,7 @@ module _ (T : RattleType) (k : MutBor (Full T.Denot)) where
   abbrev pub lends_slice : MutBor (List T.Denot) → Fml
   lends_slice r = Lends (kept_row T) (Array T 0) k r (λ written. record { items = rewritten k.now.items written })
 
--- the same for a stack, whose room stays
+-- the same for a stack, whose capacity stays
 module _ (T : RattleType) (s : MutBor (Stacked T.Denot)) where
   abbrev pub lends_stacked_item : ℕ → MutBor T.Denot → Fml
   lends_stacked_item i r = Lends (stack_row T) T s r (λ value. record s.now { items = slice_set s.now.items i value })

@@ -7,7 +7,7 @@ use std::alloc::{AllocError, Global};
 use std::marker::Model;
 use std::ops::{DerefSlice, DerefSliceMut, Index, IndexMut};
 
-/// A fixed number of elements, in a block of memory with room for no more.
+/// A fixed number of elements, in a block of memory of that size.
 ///
 /// Contracts see the elements, in order.
 #[derive(Debug, Drop)]
@@ -29,7 +29,7 @@ impl<T> Model for Kept<T> {
 }
 
 impl Kept<u32> {
-    /// The numbers below `count`, in order, or an error if out of memory.
+    /// The numbers below `count`, in order. It fails only if out of memory.
     pub fn counted(alloc: Global, count: u32) -> Result<Self, AllocError>
         ensures { IfOk result (λ made. made.items ≡ range_with_len 0 count) }
     {
@@ -44,7 +44,7 @@ impl Kept<u32> {
 impl<T> Kept<T> {
     ghost use Rattle.lot_kept.specs.Lending.{lends_slice};
 
-    /// This value `count` times, or an error if out of memory.
+    /// This value `count` times. It fails only if out of memory.
     pub fn filled(alloc: Global, value: T, count: usize) -> Result<Self, AllocError>
     where
         T: Copy + Drop,
@@ -57,7 +57,7 @@ impl<T> Kept<T> {
         Ok(Kept { places })
     }
 
-    /// The number of elements that the table has room for, which is the number of its elements.
+    /// The capacity, which is the number of elements.
     pub fn room(&self) -> usize
         ensures { result ≡ length self.now.items }
     {
@@ -80,7 +80,7 @@ impl<T> Kept<T> {
         self.places.as_slice()
     }
 
-    /// The elements, for writing.
+    /// The elements, mutable.
     pub fn as_mut_slice(&mut self) -> &mut [T]
         ensures* writes_back { sem 𝓛 (lends_slice T.row self.entry result) }
         ensures value { result.now ≡ self.old.items }

@@ -1,8 +1,8 @@
-//! Tables that take no memory after they are made.
+//! Tables that allocate only when they are made.
 //!
-//! Code that takes memory has to be passed an allocator or a value that hands one out, as a `Vec` does. These tables
-//! hand out none and have no method that grows, even behind a `&mut`. So a function that reaches its data through
-//! them alone takes no memory, and gives none back.
+//! Code that allocates needs an allocator, or a value such as a `Vec` that has one. These tables give none away and
+//! have no method that grows, even behind a `&mut`. So a function that reaches its data through them alone neither
+//! allocates nor frees.
 #![tactic(auto)]
 
 mod kept;

@@ -1,4 +1,4 @@
-//! Stacks with a fixed room.
+//! Stacks of fixed capacity.
 ghost use Rattle.std.specs.Prelude.{◌≡◌, ◌+◌, ◌<◌, ◌≤◌, ◌==◌, ◌++◌, ◌∷◌, [], IfOk, IfNone, length, slice_index_or};
 ghost use Rattle.std.specs.Borrow.{sem};
 ghost use Rattle.std.specs.Option.{option_to_list};
@@ -7,9 +7,9 @@ use std::alloc::{AllocError, Global};
 use std::marker::Model;
 use std::ops::{DerefSlice, DerefSliceMut, Index, IndexMut};
 
-/// Elements that come and go at one end, in a block of memory with room for a fixed number of them.
+/// A stack of elements in a block of memory of fixed capacity.
 ///
-/// Contracts see the elements, the last one on top, and how many there is room for.
+/// Contracts see the elements, the last one on top, and the capacity.
 #[derive(Debug, Drop)]
 pub struct Stack<T> {
     places: Vec<T>,
@@ -29,7 +29,7 @@ impl<T> Model for Stack<T> {
 impl<T> Stack<T> {
     ghost use Rattle.lot_kept.specs.Lending.{lends_stacked_slice};
 
-    /// No elements, and room for this many, or an error if out of memory.
+    /// An empty stack with capacity for `room` elements. It fails only if out of memory.
     pub fn new(alloc: Global, room: usize) -> Result<Self, AllocError>
         ensures empty { IfOk result (λ made. made.items ≡ []) }
         ensures room { IfOk result (λ made. made.room ≡ room) }
@@ -39,7 +39,7 @@ impl<T> Stack<T> {
         })
     }
 
-    /// The number of elements that there is room for.
+    /// The capacity, in elements.
     pub fn room(&self) -> usize
         ensures value { result ≡ self.now.room }
         ensures enough { length self.now.items ≤ result }
@@ -47,7 +47,7 @@ impl<T> Stack<T> {
         self.places.capacity()
     }
 
-    /// Adds an element on top, where there is room for it.
+    /// Pushes an element. The stack must not be full.
     pub fn push(&mut self, value: T)
         requires { length self.old.items < self.old.room }
         ensures items { self.new.items ≡ self.old.items ++ value ∷ [] }
@@ -57,7 +57,7 @@ impl<T> Stack<T> {
         self.places.push_reserved(value);
     }
 
-    /// Removes the element on top, or nothing if there is none.
+    /// Pops the top element, or returns `None` if the stack is empty.
     pub fn pop(&mut self) -> Option<T>
         ensures items { self.old.items ≡ self.new.items ++ option_to_list result }
         ensures none { IfNone result (self.old.items ≡ []) }
@@ -99,7 +99,7 @@ impl<T> Stack<T> {
         self.places.as_slice()
     }
 
-    /// The elements, for writing.
+    /// The elements, mutable.
     pub fn as_mut_slice(&mut self) -> &mut [T]
         ensures* writes_back { sem 𝓛 (lends_stacked_slice T.row self.entry result) }
         ensures value { result.now ≡ self.old.items }

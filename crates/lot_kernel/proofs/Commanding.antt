@@ -1,5 +1,5 @@
--- What commands change: names, tickets and what they fund.
-use Rattle.lot_kernel.proofs.Common.{Bool, Contains, Dead, Edge, Funding, IsCycle, IsInOrder, IsTarget, IsTargetThere, IsTrue, Lend, List, MakesStale, Nobody, Node, None, OfLender, OfMutex, OfTicket, Option, Record, Snapshot, Some, State, Target, Ticket, Unfunded, WouldCycle, ap, arith, at_number, at_number-suc, edges-between, false, free-dead, free_threads, free_tickets, funding_of, inl, inr, is_bad_amount, is_currency, is_cycle, is_none, issuer_of, lend-at, lend_of, length, length-map, live-between, live_in, makes-both-in, map-placed, newborn, newborn-edges, next_place, number-next, option_and_then, option_any, option_flatten, option_map, place-kept, place-set_same, placed, refl, retargeted, set-append_seam, set_number, slice_get, slice_get_within, slice_set, some-injective, subst, suc, sym, target_node, target_of, threads_of, ticket_at, ticket_in, true, weighed_of, with_target, with_thread, with_ticket, would_cycle, would_cycle-exact, zero, ℕ, [], ◌++◌, ◌+◌, ◌-◌, ◌<◌, ◌↔◌, ◌∙◌, ◌∷◌, ◌≡◌, ◌⊎◌}
+-- The changes of commands: names, tickets and targets.
+use Rattle.lot_kernel.proofs.Common.{Bool, Contains, Dead, Edge, Funding, IsCycle, IsInOrder, IsTarget, IsTargetThere, IsTrue, Lend, List, MakesStale, Nobody, Node, None, OfLender, OfMutex, OfTicket, Option, Record, Snapshot, Some, State, Target, Ticket, Unfunded, WouldCycle, ap, arith, at_number, at_number-suc, edges-between, false, free-dead, free_threads, free_tickets, funding_of, inl, inr, is_bad_amount, is_currency, is_cycle, issuer_of, lend-at, lend_of, length, length-map, live-between, live_in, makes-both-in, map-placed, newborn, newborn-edges, next_place, number-next, option_and_then, option_any, option_flatten, option_map, place-kept, place-set_same, placed, refl, retargeted, set-append_seam, set_number, slice_get, slice_get_within, slice_set, some-injective, subst, suc, sym, target_node, target_of, threads_of, ticket_at, ticket_in, true, weighed_of, with_target, with_thread, with_ticket, would_cycle, would_cycle-exact, zero, ℕ, [], ◌++◌, ◌+◌, ◌-◌, ◌<◌, ◌↔◌, ◌∙◌, ◌∷◌, ◌≡◌, ◌⊎◌}
 use Rattle.lot_machine.specs.declared.funding.Node.TheVariants as node
 use Rattle.lot_machine.specs.declared.ticket.Target.TheVariants.{Currency, Thread}
 use Rattle.lot_kernel.proofs.Freeing.{ticket-gap}
@@ -52,14 +52,6 @@ module _ (s : State) (order : IsInOrder s) (n : ℕ) (t : Ticket) (here : ticket
 pub good-amount : (amount : ℕ) → is_bad_amount amount ≡ false → 0 < amount
 good-amount zero good = cc
 good-amount (suc n) good = omega arith
-
--- a ticket that isn't missing is there
-pub ticket-found : (f : Funding) (n : ℕ) → is_none (ticket_at f n) ≡ false → (t : Ticket) × (ticket_at f n ≡ Some t)
-ticket-found f n found = by (ticket_at f n) refl found
-  where
-    by : (o : Option Ticket) → ticket_at f n ≡ o → is_none o ≡ false → (t : Ticket) × (ticket_at f n ≡ Some t)
-    by None none e = cc
-    by (Some t) some e = (t, some)
 
 -- ---- a new ticket that funds a new thread
 

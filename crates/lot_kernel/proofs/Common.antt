@@ -33,8 +33,8 @@ pub use Rattle.lot_machine.specs.Commands.{Step, are_currencies_full, are_thread
 pub use Rattle.lot_machine.specs.Rows.{currency_name, currency_row, row_of_thread, target_name, thread_name, thread_row, ticket_row}
 pub use Rattle.lot_machine.specs.State.{Freed, Mutex, Port, QueuedCall, State, change_each, change_record, free_currencies, free_threads, free_tickets, funding_of, holder_of, holders, is_live_status, lend_of, live_in, live_of, next_currency, next_thread, next_ticket, opening, ready_threads, sizes_of, status_of, thread_at, thread_on, used_by, value_of, weight_of}
 pub use Rattle.lot_machine.specs.Step.{Effect, at_port, checked_effect, draw, ends_quantum, event_effect, event_refusal, expire, finish_trap, is_bad_processor, is_no_mutex, of_mutexes, of_ports, overrun, owns, replies, started, state_after, step, stopped, thread_there, trap, trap_effect, trap_refusal, used_there, wake}
-pub use Rattle.lot_machine.specs.declared.action.Action.{Action}
-pub use Rattle.lot_machine.specs.declared.action.Action.TheVariants.{Call, Exit, Lock, Receive, Reply, Serve, Sleep, Unlock, Yield}
+pub use Rattle.lot_machine.specs.Actions.{Action}
+pub use Rattle.lot_machine.specs.declared.trap.Trap.TheVariants.{Call, Exit, Lock, Receive, Reply, Serve, Sleep, Unlock, Yield}
 pub use Rattle.lot_machine.specs.declared.after.After.{After}
 pub use Rattle.lot_machine.specs.declared.after.After.TheVariants.{Ends, GoesOn, Leaves}
 pub use Rattle.lot_machine.specs.declared.command.Command.{Command}
@@ -48,7 +48,7 @@ pub use Rattle.lot_machine.specs.declared.refusal.Refusal.TheVariants.{Alive, Ba
 pub use Rattle.lot_machine.specs.declared.refusal.TrapRefusal.{TrapRefusal}
 pub use Rattle.lot_machine.specs.declared.refusal.TrapRefusal.TheVariants.{AlreadyOwner, LockCycle, NoMutex, NoPort, NotOwner, NothingToReply}
 pub use Rattle.lot_machine.specs.declared.reply.Outcome.TheVariants.{Refused}
-pub use Rattle.lot_machine.specs.declared.reply.Reply.TheVariants.{Funded, Trapped}
+pub use Rattle.lot_machine.specs.declared.reply.Reply.TheVariants.{Funded, Killed, Trapped}
 pub use Rattle.lot_machine.specs.declared.row.CurrencyRow.{CurrencyRow}
 pub use Rattle.lot_machine.specs.declared.row.ThreadRow.{ThreadRow}
 pub use Rattle.lot_machine.specs.declared.row.TicketRow.{TicketRow}

@@ -1,4 +1,4 @@
--- Tickets counted one after another.
+-- Tickets counted one by one.
 use Rattle.lot_kernel.proofs.Common.{Bool, List, None, Option, Some, Ticket, ap, arith, at_number-suc, drop, drop-cons, false, filter, filter_map, get_or, if◌then◌else◌, length, option_any, option_flatten, refl, slice_get-get_or, suc, ticket_in, true, ℕ, ◌+◌, ◌<◌, ◌∙◌, ◌∷◌, ◌≡◌}
 
 -- how many of the tickets after the first i pass

@@ -1,6 +1,6 @@
--- Servers that are taken away before a lock: first in the queues, and then in the threads.
+-- Servers cleared before a lock, first in the queues, and then in the threads.
 use Rattle.lot_kernel.proofs.Common.{Bool, Freed, HasHolders, HasNoCycle, HasQueues, IsInOrder, IsOwnerBetween, IsRunning, IsStaleIn, IsThere, List, MakesStale, MakesStaleIn, Mutex, Node, None, Option, QueueLists, Sizes, Snapshot, Some, State, Threaded, ap, arith, at_number, at_number-map, before_lock, cases_eq, cond, false, funding_in, funding_of, held, held_by, inl, inr, lends_lead, lends_on_to, length, length-set, lock, lock-queues_then, makes-each, mutex_at, number-set, number-set_same, number-some, of_mutexes, option_any, option_flatten, option_map, owner_of, owners-same, owners_of, port_holders, range_with_len, refl, set_number, subst, suc, sym, threads_of, trap_refusal, true, unserved, unserved_at, with_owner, ℕ, [], ◌+◌, ◌-◌, ◌<◌, ◌∙◌, ◌∷◌, ◌≡◌, ◌≢◌, ◌≤◌, ◌⊎◌}
-use Rattle.lot_machine.specs.declared.action.Action.TheVariants as action
+use Rattle.lot_machine.specs.declared.trap.Trap.TheVariants as action
 use Rattle.lot_kernel.proofs.Holding.{IsHeld}
 use Rattle.lot_kernel.proofs.PastPorts.{range-low}
 use Rattle.lot_kernel.proofs.Trapping.{lead-on, lock-there}

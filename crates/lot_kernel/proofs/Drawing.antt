@@ -1,4 +1,4 @@
--- A draw of the threads is one of the state.
+-- A draw of the threads is a draw of the state.
 use Rattle.lot_kernel.proofs.Common.{Drawn, Lend, List, MakesStaleIn, Meter, Node, None, Option, Ready, Record, Some, State, Step, Threaded, Winner, ap, at_number, change_record, draw, drawn_in, false, funding_in, is_bad_processor, is_live_status, is_some, lend_of, live_in, map, option_and_then, ready_threads, record-of, refl, slice_index, some-injective, started, status_of, step, sym, thread_on, threads_of, weight_of, winner, with_records, ℕ, [], ◌∙◌, ◌≡◌}
 use Rattle.lot_machine.specs.declared.event.Event.TheVariants as event
 use Rattle.lot_machine.specs.declared.reply.Reply.TheVariants as answer

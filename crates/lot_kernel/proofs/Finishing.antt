@@ -1,4 +1,4 @@
--- How the thread that made a trap may go on or leave.
+-- The dispositions of the thread that made a trap.
 use Rattle.lot_kernel.proofs.Common.{Action, After, Asleep, Bool, CanChange, CanLend, CanRun, Dead, Ends, FundsThere, GoesOn, HasNoCycle, IfSome, IsBelowQuantum, IsBetween, IsBorrower, IsInOrder, IsThere, IsTimely, Leaves, Lend, List, Meter, Node, None, Queued, Ready, Receiving, Record, Running, RunsAlone, Served, Some, State, Status, StopsIfLeaves, Trap, Waiting, after_trap, ap, arith, at_number, change_record, compensation_for, effect_of, false, finish_trap, funding_of, if◌then◌else◌, lend-at, lend_node, lend_of, ltb-true, map, map-set, may-lend, nat_lt, record-of, refl, runs-alone, set_number, status_of, subst, threads_of, trap, trap-order, true, with_ticks, ℕ, ◌+◌, ◌-◌, ◌<◌, ◌∙◌, ◌≡◌, ◌≤◌}
 
 -- a thread that stops may have any such status

@@ -1,4 +1,4 @@
--- The free places that the kernel keeps, against those of the state; and what is put into the first of them.
+-- The kernel's free places against those of the state, and a new element in the first of them.
 use Rattle.lot_kernel.proofs.Common.{Bool, Contains, HasEachOnce, HasIdlePlace, IsGap, IsInOrder, List, None, Option, Some, State, ap, apart-from, arith, at_number, at_number-suc, clients_of, cond, contains-at, false, free_currencies, free_threads, free_tickets, length, next_place, place-in, placed, range-contains, range_with_len, refl, set_number, slice_get, slice_get_within, slice_set, some-injective, subst, suc, sum_by, sum_by-cons, sums-within, sym, true, unwrap_or, zero, ℕ, [], ◌+◌, ◌-◌, ◌<◌, ◌∙◌, ◌∷◌, ◌≡◌}
 
 -- ---- the free places of a state

@@ -1,4 +1,4 @@
--- The threads go on to be those of the state that the tables hold, through each change.
+-- Through each change the threads stay those of the state in the tables.
 use Rattle.lot_kernel.proofs.Common.{Contains, Freed, Funding, List, MakesStale, MakesStaleIn, Meter, MutexTrap, Node, None, Option, QueueLists, Record, Sizes, Snapshot, Thread, Threaded, Ticket, ap, counted_up, edges_into_all, false, funding_in, held, inl, is_some, map-set, settled, settled_in, slice_set, subst, sym, threads_of, with_mutexes, with_records, ℕ, [], ◌∙◌, ◌≡◌}
 
 -- the threads are those of the state that they, the names and the queues hold

@@ -1,4 +1,4 @@
--- An index after a name is added or removed, and what it finds.
+-- An index after a name is added or removed, and the places that it finds.
 use Rattle.lot_kernel.proofs.Common.{Bool, Contains, HasSameSize, IfNone, IfSome, IsConsistent, IsFree, IsIndexOf, List, NodeLists, None, Option, Some, State, Thread, ThreadRef, ap, arith, at_number, at_number-suc, bucket_at, bucket_of, bytes_eq, bytes_eq-Decides, cases_eq, cases_lt, cond, contains-filter, contains-nothing, false, filter, filter-contains, flatten-some, fold, get_or, get_or_from_slice_get, hash_of, inl, inr, is_meant_by, is_no_name, is_some, le-ltb, length, lt-ltb, min, min-le_left, min-le_right, mirror-free, mirror-push, mirror-remove, mirror-same, names_of, nat_lt, node_at, nodes_of, not, option_and_then, option_any, option_flatten, option_map, place-set_other, place-set_same, position, position-Some, position_or_len_is, reduce, refl, slice_get, slice_get-get_or, slice_get-map, slice_get_past, slice_get_within, slice_set, some-injective, subst, suc, sym, thread_at, thread_meant, true, with_pushed, with_removed, zero, ℕ, [], ◌%◌, ◌&&◌, ◌++◌, ◌+◌, ◌-◌, ◌<◌, ◌∙◌, ◌∷◌, ◌≡◌, ◌≤◌, ◌⊎◌}
 use Rattle.lot_machine.specs.declared.reference.ThreadRef.TheVariants as thread_ref
 

@@ -1,4 +1,4 @@
--- What a kill changes: the thread is taken out of its queue, its clients are released, its mutexes pass on, and it ends.
+-- The changes of a kill: the thread leaves its queue, its clients are released, its mutexes pass on, and it ends.
 use Rattle.lot_kernel.proofs.Common.{Bool, Contains, Freed, IsAbsent, IsInOrder, IsNowhere, IsThere, IsThreadOf, List, MakesStaleIn, Mutex, None, Option, QueueLists, Record, Sizes, Some, State, Threaded, ap, arith, at_number, at_number-map, cases_eq, change-length, change_each, change_record, clients_of, cond, cons_option, contains-nothing, each-append, each-between, each-length, each-record_other, ended, false, filter_map, heir, heir-of, held, inl, inr, is_owned_by, killed, length, length-map, length-set, makes-each, map, mapped-from, mutex_without, next_from, number-set, option_map, own-absent, owners_of, passed_from, passed_on, port_without, queues_without, record-other, refl, released, set_number, slice_get, subst, suc, sym, true, unwrap_or, waiters_without, with_records, without, without-absent, without-other, ℕ, [], ◌-◌, ◌<◌, ◌∙◌, ◌∷◌, ◌≡◌, ◌≤◌, ◌⊎◌}
 use Rattle.lot_kernel.proofs.Holding.{IsHeld}
 

@@ -1,6 +1,6 @@
 -- A trap leaves the record of the thread that makes it.
 use Rattle.lot_kernel.proofs.Common.{Action, Call, Drawn, Exit, HasQueues, IsQueue, List, Lock, Mutex, NoPort, None, NothingToReply, Option, Port, Queued, QueuedCall, Ready, Receive, Receiving, Record, Running, Serve, Served, Sizes, Sleep, Some, State, Status, TrapRefusal, Unlock, Waiting, Yield, after_trap, all-pass, ap, at_number, before_lock, call, checked_effect, effect_of, false, first_client, get_or, get_or_from_slice_get, get_or_past, inl, inr, is_none, length, lock, map, mutex_at, option_map, port_at, queue-clients, queue-empty, receive, refl, replied-queues, reply, serve, slice_get, slice_get_cases, slice_index, some-injective, status_of, subst, sym, trap_effect, trap_refusal, unlock, unwrap_or, value_of, winner, ℕ, [], ◌<◌, ◌∙◌, ◌∷◌, ◌≡◌, ◌≤◌, ◌⊎◌}
-use Rattle.lot_machine.specs.declared.action.Action.TheVariants.{Reply as ReplyTo}
+use Rattle.lot_machine.specs.declared.trap.Trap.TheVariants.{Reply as ReplyTo}
 use Rattle.lot_ports.proofs.Serving.{record-other}
 
 -- a lock changes no record
@@ -113,7 +113,6 @@ pub effect-leaves : (s : State) (t p used : ℕ) (action : Action) → status_of
 effect-leaves s t p used action runs queues = checked (trap_refusal s t action) refl
   where
     passed : (a : Action) → trap_refusal s t a ≡ None → at_number (trap_effect s t a).state.records t ≡ at_number s.records t
-    passed Yield allowed = refl
     passed (Call port number) allowed = call-leaves s.records t p used runs s.clients s.ports s.mutexes queues port number
     passed (Receive port) allowed = receive-leaves s.records t p used runs s.clients s.ports s.mutexes queues port
     passed (ReplyTo number) allowed = reply-leaves s.records t p used runs s.clients s.ports s.mutexes queues number (all-pass ((is_none (first_client s.clients t), NothingToReply) ∷ []) allowed).0
@@ -121,8 +120,7 @@ effect-leaves s t p used action runs queues = checked (trap_refusal s t action) 
         serve-leaves s.limits s.records t p used runs s.clients s.ports s.mutexes queues port number (all-pass ((is_none (at_number s.ports port), NoPort) ∷ (is_none (first_client s.clients t), NothingToReply) ∷ []) allowed).1.0
     passed (Lock m) allowed = lock-leaves s.records (before_lock s t m) t m
     passed (Unlock m d) allowed = unlock-leaves s.records t p used runs s.clients s.ports s.mutexes queues (value_of s) m d
-    passed Sleep allowed = refl
-    passed Exit allowed = refl
+    passed a allowed = refl
 
     checked : (o : Option TrapRefusal) → trap_refusal s t action ≡ o → at_number (checked_effect s (trap_refusal s t action) (trap_effect s t action)).state.records t ≡ at_number s.records t
     checked None allowed = rw allowed (passed action allowed)

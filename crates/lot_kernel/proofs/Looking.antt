@@ -1,4 +1,4 @@
--- What is found by a number in a table with gaps.
+-- Lookups by number in a table with gaps.
 use Rattle.lot_kernel.proofs.Common.{List, None, Option, Some, ap, arith, at_number, at_number-suc, false, get_or, length, ltb-true, nat_lt, nat_tests, refl, slice_get, subst, suc, sym, true, zero, ℕ, [], ◌-◌, ◌<◌, ◌∙◌, ◌∷◌, ◌≡◌, ◌≤◌}
 
 looked-up : {A : Type 0} (xs : List A) (n : ℕ) (x : A) → n < length xs → x ≡ get_or xs n x → slice_get xs n ≡ Some x
@@ -25,3 +25,8 @@ entry-missing xs ys n same high = subst (λ zs. slice_get zs n ≡ None) same (m
 pub numbered : {A : Type 0} (xs : List A) (t i : ℕ) (o : Option A) → (t ≡ 0 → ⊥) → i ≡ t - 1 → slice_get xs i ≡ o → at_number xs t ≡ o
 numbered xs zero i o some index is = absurd (some refl)
 numbered xs (suc k) i o some index is = let same : k ≡ i = omega (arith, index) in at_number-suc xs k ∙ ap (slice_get xs) same ∙ is
+
+-- the place of what has a number
+pub number-place : {A : Type 0} (xs : List A) (t i : ℕ) (x : A) → at_number xs t ≡ Some x → i ≡ t - 1 → (t ≡ suc i) × (slice_get xs i ≡ Some x)
+number-place xs zero i x at index = cc
+number-place xs (suc k) i x at index = let same : k ≡ i = omega (arith, index) in (ap suc same, ap (slice_get xs) (sym same) ∙ sym (at_number-suc xs k) ∙ at)

@@ -1,4 +1,4 @@
--- What is counted, through the parts of an event.
+-- The counts, through the parts of an event.
 use Rattle.lot_kernel.proofs.Common.{Action, Call, Contains, CountsNothing, CountsTrap, Drawn, Exit, HasNoneTwice, KeepsStale, List, Lock, Mutex, Option, Outcome, Receive, Record, Reply, Serve, Sleep, Snapshot, Some, Unlock, Yield, map, mutex_at, option_map, refl, settled_meter, slice_index, some-injective, subst, sym, unlock, unwrap_or, winner, ℕ, [], ◌∙◌, ◌∷◌, ◌≡◌, ◌≢◌}
 use Rattle.lot_machine.specs.declared.funding.Node.TheVariants.{Thread}
 use Rattle.lot_machine.specs.declared.reply.Outcome.TheVariants as outcome
@@ -10,33 +10,13 @@ nothing-twice old mid new first kept meter = record { kept = λ x is. kept x (fi
 module _ (old mid new : Snapshot) (kept : KeepsStale mid new) (meter : new.meter ≡ mid.meter) where
   -- what follows a trap counts nothing
   pub trap-then : (action : Action) (o : Outcome) → CountsTrap action o old mid → CountsTrap action o old new
-  trap-then Yield o first = nothing-twice old mid new first kept meter
-  trap-then (Call p n) o first = nothing-twice old mid new first kept meter
-  trap-then (Receive p) o first = nothing-twice old mid new first kept meter
-  trap-then (Reply n) o first = nothing-twice old mid new first kept meter
-  trap-then (Serve p n) o first = nothing-twice old mid new first kept meter
-  trap-then (Lock m) o first = nothing-twice old mid new first kept meter
-  trap-then Sleep o first = nothing-twice old mid new first kept meter
-  trap-then Exit o first = nothing-twice old mid new first kept meter
   trap-then (Unlock m d) (outcome.Passed to draw) first = record {
     once = first.once;
     meter = meter ∙ first.meter;
     owner = λ owner owns. kept (Thread owner) (first.owner owner owns);
     next = kept (Thread to) first.next;
   }
-  trap-then (Unlock m d) outcome.Yielded first = nothing-twice old mid new first kept meter
-  trap-then (Unlock m d) (outcome.ServedBy s) first = nothing-twice old mid new first kept meter
-  trap-then (Unlock m d) outcome.Queued first = nothing-twice old mid new first kept meter
-  trap-then (Unlock m d) outcome.Waits first = nothing-twice old mid new first kept meter
-  trap-then (Unlock m d) (outcome.Received client number) first = nothing-twice old mid new first kept meter
-  trap-then (Unlock m d) (outcome.Replied client) first = nothing-twice old mid new first kept meter
-  trap-then (Unlock m d) (outcome.RepliedThenReceived to client number) first = nothing-twice old mid new first kept meter
-  trap-then (Unlock m d) (outcome.RepliedThenWaits to) first = nothing-twice old mid new first kept meter
-  trap-then (Unlock m d) outcome.Locked first = nothing-twice old mid new first kept meter
-  trap-then (Unlock m d) outcome.Freed first = nothing-twice old mid new first kept meter
-  trap-then (Unlock m d) outcome.Slept first = nothing-twice old mid new first kept meter
-  trap-then (Unlock m d) outcome.Exited first = nothing-twice old mid new first kept meter
-  trap-then (Unlock m d) (outcome.Refused why) first = nothing-twice old mid new first kept meter
+  trap-then action o first = nothing-twice old mid new first kept meter
 
 somebody : (waiters : List ℕ) (w : ℕ) (ws : List ℕ) → waiters ≡ w ∷ ws → waiters ≢ []
 somebody waiters w ws some none = let no = sym some ∙ none in cc

@@ -1,4 +1,4 @@
--- Chains of lends that pass no port: whom a thread lends to if no port has a server.
+-- Chains of lends that pass no port: the borrowers if no port has a server.
 use Rattle.lot_kernel.proofs.Common.{Bool, Funding, HasNoCycle, IsLendChain, Lend, LendsTo, List, Mutex, Nobody, None, Option, Some, State, ToMutex, ToThread, ap, arith, at_number, at_number-map, borrower, borrower_of, cases_eq, cases_lt, cond, cycle-unserved_each, eq-eqb, false, funding_of, held_by, holders, inl, inr, is_none, lends_lead, lends_lead-exact, lends_lead_within, lends_on_to, length, mutex_at, ne_eqb, number-set, number-set_same, option_and_then, option_any, option_flatten, option_map, owner_of, owners_of, port_holders, range_with_len, refl, refused-off, set_number, suc, sym, true, unserved, unserved_at, unwrap_or, without_servers, zero, ℕ, [], ◌+◌, ◌-◌, ◌<◌, ◌||◌, ◌∙◌, ◌∷◌, ◌≡◌, ◌≢◌, ◌≤◌, ◌⊎◌}
 use Rattle.lot_kernel.proofs.Serving.{unserved-count, unserved-either}
 use Rattle.lot_kernel.proofs.Trapping.{lead-on, number-within}

@@ -1,4 +1,4 @@
--- What a trap of a port leaves in the tables, and what it shows of them.
+-- The tables after a trap at a port, and what its contract shows of them.
 use Rattle.lot_kernel.proofs.Common.{Action, After, Contains, Effect, Freed, HasHolders, HasNoCycle, IfSome, IsInOrder, IsLive, IsNowhere, IsQueue, IsRunning, KeepsStale, List, MakesStale, MakesStaleIn, Mutex, Node, Option, Outcome, Port, PortTrap, QueueLists, QueuedCall, Ready, Receiving, Record, Running, Sizes, Snapshot, Some, State, Threaded, ap, at_number, at_port, call, change_record, effect_of, funding_of, held, length, live-status, live_in, of_ports, option_map, port_at, receive, refl, serve, served_at, status-now, subst, sym, taker, with_ports, with_records, ℕ, [], ◌∙◌, ◌∷◌, ◌≡◌}
 use Rattle.lot_machine.specs.declared.reply.Outcome.TheVariants as outcome
 use Rattle.lot_kernel.proofs.Holding.{IsHeld, makes-held, snapshot_of}

@@ -1,9 +1,8 @@
--- What is refused: nothing changes, and the reply names the first check that fails.
-use Rattle.lot_kernel.proofs.Common.{Action, After, BadProcessor, BadTicks, Bool, Command, Event, GoesOn, IsThere, List, MatchOption, None, NotRunning, Option, Outcome, Record, Refusal, Snapshot, Some, State, Step, Target, Ticket, TrapRefusal, Unfunded, ap, arith, at_number, at_number-map, checked_effect, command_effect, command_refusal, command_step, compensation_for, effect_of, event_effect, event_refusal, expire, false, finish_trap, first_failing, if◌then◌else◌, inl, is_bad_processor, is_funding, is_live, is_live_status, is_no_mutex, is_none, is_some, is_taken, is_unfunded, length, live_of, nat_eq, nat_le, nat_lt, nat_tests, not, option_and_then, option_any, option_eq, option_map, overrun, refl, step, stopped, suc, sym, target_named, thread_on, thread_there, trap, trap_effect, trap_refusal, true, unless_refused, unwrap_or, used_by, used_there, zero, ℕ, [], ◌+◌, ◌-◌, ◌<◌, ◌==◌, ◌^◌, ◌||◌, ◌∙◌, ◌∷◌, ◌≡◌, ◌≤◌}
+-- Refusals: nothing changes, and the reply names the first check that fails.
+use Rattle.lot_kernel.proofs.Common.{Action, After, BadProcessor, BadTicks, Bool, Command, Event, GoesOn, IsThere, List, MatchOption, None, NotRunning, Option, Outcome, Record, Refusal, Snapshot, Some, State, TrapRefusal, ap, arith, at_number, at_number-map, checked_effect, command_effect, command_refusal, command_step, compensation_for, effect_of, event_effect, event_refusal, expire, false, finish_trap, first_failing, if◌then◌else◌, inl, is_bad_processor, is_live, is_live_status, is_no_mutex, is_none, is_some, length, live_of, nat_eq, nat_le, nat_lt, nat_tests, not, option_and_then, option_any, option_eq, option_map, overrun, refl, step, stopped, suc, sym, thread_on, thread_there, trap, trap_effect, trap_refusal, true, unless_refused, unwrap_or, used_by, used_there, zero, ℕ, [], ◌+◌, ◌-◌, ◌<◌, ◌==◌, ◌^◌, ◌||◌, ◌∙◌, ◌∷◌, ◌≡◌, ◌≤◌}
 use Rattle.lot_machine.specs.declared.event.Event.TheVariants as event
 use Rattle.lot_machine.specs.declared.reply.Outcome.TheVariants as outcome
 use Rattle.lot_machine.specs.declared.reply.Reply.TheVariants.{Refused}
-use Rattle.lot_machine.specs.declared.ticket.Target.TheVariants.{Currency, Thread}
 use Rattle.lot_kernel.proofs.PortTraps.{Shows}
 use Rattle.lot_kernel.proofs.Trapping.{number-there, number-within}
 
@@ -26,19 +25,10 @@ module _ {R : Type 0} where
   pub two-pass : (a b c : Bool) (x y z : R) → a ≡ false → b ≡ false → first_failing ((a, x) ∷ (b, y) ∷ (c, z) ∷ []) ≡ first_failing ((c, z) ∷ [])
   two-pass a b c x y z first second = rw (first, second) refl
 
-  -- one check alone
-  pub full-alone : (a : Bool) (r : R) → (a ≡ false → ⊥) → first_failing ((a, r) ∷ []) ≡ Some r
-  full-alone true r not_free = refl
-  full-alone false r not_free = absurd (not_free refl)
-
   -- one check for two limits
   pub second-full : (a b : Bool) (r : R) → true ≡ b → first_failing ((a || b, r) ∷ []) ≡ Some r
   second-full true b r is = refl
   second-full false b r is = rw (← is) refl
-
-  pub first-full : (a b : Bool) (r : R) → (a ≡ false → ⊥) → first_failing ((a || b, r) ∷ []) ≡ Some r
-  first-full true b r not_free = refl
-  first-full false b r not_free = absurd (not_free refl)
 
 -- ---- commands
 
@@ -128,15 +118,7 @@ pub tested-zero : {A : Type 0} (xs : List A) (n : ℕ) → n ≤ 0 → is_none (
 tested-zero xs zero low = refl
 tested-zero xs (suc n) low = absurd (omega (arith, low))
 
--- ---- names
-
--- a name is taken if something is found by it
-pub taken : (s : State) (name : List ℕ) (found : Option Target) → found ≡ target_named s name → is_some found ≡ is_taken s name
-taken s name found is = by found ∙ ap (λ o. not (is_none o)) is
-  where
-    by : (o : Option Target) → is_some o ≡ not (is_none o)
-    by None = refl
-    by (Some x) = refl
+-- ---- what is found
 
 -- a processor is busy if a runner is found there
 pub busy-on : {A : Type 0} (o : Option A) (f : A → ℕ) (x : Option ℕ) → MatchOption o (x ≡ None) (λ a. x ≡ Some (f a)) → is_some x ≡ is_some o
@@ -238,24 +220,3 @@ module _ (s : State) (p t used : ℕ) (good : is_bad_processor s p ≡ false) (o
   over-trapped ran action over =
       let high = ap (λ u. nat_lt s.limits.quantum (u + ran + 1)) used-there ∙ is-above (used + ran + 1) s.limits.quantum over in
       two-pass (is_bad_processor s p) (is_none (thread_on s.records p)) (nat_lt s.limits.quantum (used_there s p + ran + 1)) BadProcessor NotRunning BadTicks good (ap is_none on) ∙ ap (λ b. first_failing ((b, BadTicks) ∷ [])) high
-
--- ---- targets
-
--- a ticket that funds nothing has no target
-pub no-target : (t : Ticket) → is_funding t ≡ false → t.target ≡ Unfunded
-no-target t is = by t.target is
-  where
-    by : (x : Target) → not (is_unfunded x) ≡ false → x ≡ Unfunded
-    by Unfunded e = refl
-    by (Currency c) e = cc
-    by (Thread u) e = cc
-
-module _ (s : State) (r : Refusal) (next : Step) where
-  -- the last check decides
-  pub last-reply : (fails : Bool) → (if fails then Refused r else next.reply) ≡ (unless_refused s (first_failing ((fails, r) ∷ [])) next).reply
-  last-reply true = refl
-  last-reply false = refl
-
-  pub last-state : (fails : Bool) → (if fails then s else next.state) ≡ (unless_refused s (first_failing ((fails, r) ∷ [])) next).state
-  last-state true = refl
-  last-state false = refl

@@ -1,5 +1,5 @@
--- The state after the kernel makes something in a free place or at the end of a table, and after it leaves a place.
-use Rattle.lot_kernel.proofs.Common.{Bool, FreeStack, Freed, HasIdlePlace, HasRoomFor, IsInOrder, List, None, OnSome, Option, Record, Sizes, Some, SomeIff, State, Thread, Ticket, ap, are_currencies_full, are_threads_full, are_tickets_full, arith, at_number, at_number-suc, cond, drop, drop_currency, drop_thread, drop_ticket, false, flatten-some, free_currencies, free_threads, free_tickets, freed_in, is_none_free, is_some, le-ltb, leb-false, length, length-append, length-set, lt-leb, ltb-false, map, nat_le, nat_lt, newborn, next_currency, next_place, next_thread, next_ticket, none_free, option_map, place-kept, placed, refl, set_number, slice_get, slice_get-map, slice_get_within, slice_set, some-injective, suc, sym, ticket_in, true, with_currency, with_thread, with_ticket, without_ticket, zero, ℕ, [], ◌&&◌, ◌++◌, ◌+◌, ◌-◌, ◌<◌, ◌∙◌, ◌∷◌, ◌≡◌, ◌≤◌}
+-- The state after a new element in a free place or at the end of a table, and after a place is freed.
+use Rattle.lot_kernel.proofs.Common.{Bool, FreeStack, Freed, HasIdlePlace, HasRoomFor, IsInOrder, List, None, Option, Record, Sizes, Some, State, Thread, Ticket, ap, are_currencies_full, are_threads_full, are_tickets_full, arith, at_number, at_number-suc, cond, drop, drop_currency, drop_thread, drop_ticket, false, flatten-some, free_currencies, free_threads, free_tickets, freed_in, is_none_free, is_some, leb-false, length, length-append, length-set, ltb-false, map, nat_le, nat_lt, newborn, next_currency, next_place, next_thread, next_ticket, none_free, option_map, place-kept, placed, refl, set_number, slice_get, slice_get-map, slice_get_within, slice_set, some-injective, suc, sym, ticket_in, true, with_currency, with_thread, with_ticket, without_ticket, zero, ℕ, [], ◌&&◌, ◌++◌, ◌+◌, ◌-◌, ◌<◌, ◌∙◌, ◌∷◌, ◌≡◌, ◌≤◌}
 use Rattle.lot_kernel.specs.declared.freed.Freed.{Freed as Stacks}
 use Rattle.lot_kernel.proofs.Freeing.{given-same, set-place, placed-first, free-few, ticket-gap, currency-gap, thread-gap}
 
@@ -9,11 +9,6 @@ use Rattle.lot_kernel.proofs.Freeing.{given-same, set-place, placed-first, free-
 pub none-first : (free : List ℕ) → None ≡ option_map (λ (place : ℕ). place + 1) (slice_get free 0) → free ≡ []
 none-first [] is = refl
 none-first (place ∷ free) is = cc
-
--- what follows from what is so, if there is one
-pub on-some : {A : Type 0} (o : Option A) {P Q : Type 0} → (P → Q) → OnSome o P → OnSome o Q
-on-some None follows is = tt
-on-some (Some x) follows is = follows is
 
 -- ---- tickets
 
@@ -31,20 +26,18 @@ module _ (s : State) where
       ap (λ free. record s { tickets = s.tickets ++ Some ticket ∷ []; freed = record s.freed { tickets = free } }) (sym given ∙ none)
       ∙ ap (λ free. record s { tickets = placed s.tickets free (Some ticket); freed = record s.freed { tickets = drop 1 free } }) (sym none)
 
-  pub first-ticket : (n : ℕ) → Some n ≡ option_map (λ (place : ℕ). place + 1) (slice_get (free_tickets s) 0) → (are_tickets_full s ≡ false) × (n ≡ next_ticket s)
+  pub first-ticket : (n : ℕ) → Some n ≡ option_map (λ (place : ℕ). place + 1) (slice_get (free_tickets s) 0) → n ≡ next_ticket s
   first-ticket n = by (free_tickets s) refl
     where
-      by : (free : List ℕ) → free_tickets s ≡ free → Some n ≡ option_map (λ (place : ℕ). place + 1) (slice_get free 0) → (are_tickets_full s ≡ false) × (n ≡ next_ticket s)
+      by : (free : List ℕ) → free_tickets s ≡ free → Some n ≡ option_map (λ (place : ℕ). place + 1) (slice_get free 0) → n ≡ next_ticket s
       by [] e is = cc
-      by (place ∷ free) e is =
-          (ap (λ places. is_none_free places && nat_le s.limits.tickets (length s.tickets)) e, some-injective n (place + 1) is ∙ sym (ap (λ places. next_place s.tickets places + 1) e))
+      by (place ∷ free) e is = some-injective n (place + 1) is ∙ sym (ap (λ places. next_place s.tickets places + 1) e)
 
-  pub last-ticket : (r : Option ℕ) → free_tickets s ≡ [] → SomeIff r (length s.tickets < s.limits.tickets) (length s.tickets + 1) → SomeIff r (are_tickets_full s ≡ false) (next_ticket s)
-  last-ticket None none past = λ full.
-      let few : nat_le s.limits.tickets (length s.tickets) ≡ false = sym (ap (λ places. is_none_free places && nat_le s.limits.tickets (length s.tickets)) none) ∙ full in
-      past (leb-false s.limits.tickets (length s.tickets) few)
-  last-ticket (Some n) none (below, is) =
-      (ap (λ places. is_none_free places && nat_le s.limits.tickets (length s.tickets)) none ∙ lt-leb s.limits.tickets (length s.tickets) below, is ∙ sym (ap (λ places. next_place s.tickets places + 1) none))
+  pub last-ticket : free_tickets s ≡ [] → next_ticket s ≡ length s.tickets + 1
+  last-ticket none = ap (λ places. next_place s.tickets places + 1) none
+
+  pub ticket-room : free_tickets s ≡ [] → are_tickets_full s ≡ false → length s.tickets < s.limits.tickets
+  ticket-room none room = leb-false s.limits.tickets (length s.tickets) (sym (ap (λ places. is_none_free places && nat_le s.limits.tickets (length s.tickets)) none) ∙ room)
 
 -- ---- currencies
 
@@ -60,19 +53,18 @@ module _ (s : State) where
       ap (λ free. record s { currencies = s.currencies ++ Some name ∷ []; freed = record s.freed { currencies = free } }) (sym given ∙ none)
       ∙ ap (λ free. record s { currencies = placed s.currencies free (Some name); freed = record s.freed { currencies = drop 1 free } }) (sym none)
 
-  pub first-currency : (n : ℕ) → Some n ≡ slice_get (free_currencies s) 0 → (are_currencies_full s ≡ false) × (n ≡ next_currency s)
+  pub first-currency : (n : ℕ) → Some n ≡ slice_get (free_currencies s) 0 → n ≡ next_currency s
   first-currency n = by (free_currencies s) refl
     where
-      by : (free : List ℕ) → free_currencies s ≡ free → Some n ≡ slice_get free 0 → (are_currencies_full s ≡ false) × (n ≡ next_currency s)
+      by : (free : List ℕ) → free_currencies s ≡ free → Some n ≡ slice_get free 0 → n ≡ next_currency s
       by [] e is = cc
-      by (place ∷ free) e is = (ap (λ places. is_none_free places && nat_lt s.limits.currencies (length s.currencies)) e, some-injective n place is ∙ sym (ap (next_place s.currencies) e))
+      by (place ∷ free) e is = some-injective n place is ∙ sym (ap (next_place s.currencies) e)
 
-  pub last-currency : (r : Option ℕ) → free_currencies s ≡ [] → SomeIff r (length s.currencies ≤ s.limits.currencies) (length s.currencies) → SomeIff r (are_currencies_full s ≡ false) (next_currency s)
-  last-currency None none past = λ full.
-      let few : nat_lt s.limits.currencies (length s.currencies) ≡ false = sym (ap (λ places. is_none_free places && nat_lt s.limits.currencies (length s.currencies)) none) ∙ full in
-      past (ltb-false s.limits.currencies (length s.currencies) few)
-  last-currency (Some n) none (below, is) =
-      (ap (λ places. is_none_free places && nat_lt s.limits.currencies (length s.currencies)) none ∙ le-ltb s.limits.currencies (length s.currencies) below, is ∙ sym (ap (next_place s.currencies) none))
+  pub last-currency : free_currencies s ≡ [] → next_currency s ≡ length s.currencies
+  last-currency none = ap (next_place s.currencies) none
+
+  pub currency-room : free_currencies s ≡ [] → are_currencies_full s ≡ false → length s.currencies ≤ s.limits.currencies
+  currency-room none room = ltb-false s.limits.currencies (length s.currencies) (sym (ap (λ places. is_none_free places && nat_lt s.limits.currencies (length s.currencies)) none) ∙ room)
 
 -- ---- threads
 

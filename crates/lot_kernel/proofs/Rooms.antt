@@ -1,4 +1,4 @@
--- The rooms of the tables, by the limits.
+-- The capacities of the tables, by the limits.
 use Rattle.lot_kernel.proofs.Common.{Bool, Inside, Threaded, ap, arith, cond, false, holders, length, length-map, sizes_of, the_invariant, true, ℕ, ◌*◌, ◌+◌, ◌∙◌, ◌≡◌, ◌≤◌}
 
 -- the room for free places: for each place if numbers are given again, and otherwise none

@@ -1,4 +1,4 @@
--- Rows, put together from what was read.
+-- Rows from the values read.
 use Rattle.lot_kernel.proofs.Common.{Bool, List, None, Option, Record, Some, State, ThreadRow, Ticket, TicketRow, ap, at_number, currency_name, false, funding_of, is_active, live_of, option_and_then, option_map, refl, row_of_thread, sym, target_name, thread_name, thread_row, ticket_in, ticket_row, ticket_value, true, unwrap_or, value_of, weight, weight_of, ℕ, [], ◌≡◌}
 
 module _ (s : State) where

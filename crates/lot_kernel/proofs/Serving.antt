@@ -1,4 +1,4 @@
--- Ports that get or lose their servers: what stays, and what gets stale.
+-- Ports that get or lose their servers: the unchanged parts, and the stale nodes.
 use Rattle.lot_kernel.proofs.Common.{Bool, CanOwn, Drawn, Freed, Funding, HasHolders, IsLiveIn, IsMutex, IsOwnerBetween, IsThere, KeepsStale, List, MakesStale, MakesStaleIn, Mutex, None, Option, Outcome, PortTrap, QueueLists, Record, Sizes, Snapshot, Some, State, Threaded, ap, arith, at_number, at_number-map, before_lock, cond, eqb, eqb-false, eqb-true, false, funding_in, funding_of, held, held_by, holder_of, holders, inl, inr, leads_back, left_by, lends_lead, lends_on_to, length, length-map, length-set, live-apart, live-there, lock, makes-each, map, map-set, mutex_at, number-again, number-kept, number-set, number-set_same, number-some, of_ports, option_any, option_eq, option_flatten, option_map, other-test, owned-test, owner_of, owners-after, owners_of, passed_from, passed_on, port_holders, port_without, range_with_len, refl, remove, served_at, set_number, slice_index, some-injective, subst, suc, sym, threads_of, true, unlock, unserved, unserved_at, unwrap_or, waiters_without, winner, with_owner, with_ports, with_server, without, ℕ, [], ◌++◌, ◌+◌, ◌-◌, ◌<◌, ◌==◌, ◌∙◌, ◌∷◌, ◌≡◌, ◌≢◌, ◌≤◌, ◌⊎◌}
 use Rattle.lot_machine.specs.declared.reply.Outcome.TheVariants as outcome
 use Rattle.lot_kernel.proofs.Holding.{IsHeld}

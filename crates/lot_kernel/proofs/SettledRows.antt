@@ -1,4 +1,4 @@
--- Rows of a settled kernel, put together from what was read.
+-- Rows of a settled kernel, from the values read.
 use Rattle.lot_kernel.proofs.Common.{Bool, CurrencyRow, IsActive, IsInOrder, IsTrue, List, Meter, Node, Option, Some, State, Threaded, Ticket, active_amount, backing_currency, currency_name, currency_row, funding_in, funding_of, is_active, is_active-exact, issued_in, length, live_in, live_of, node_value, refl, subst, threads_of, ticket_in, ℕ, ◌↔◌, ◌≡◌}
 use Rattle.lot_machine.specs.declared.funding.Node.TheVariants as node
 use Rattle.lot_kernel.proofs.Rows.{same-truth}

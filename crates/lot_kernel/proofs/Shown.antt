@@ -1,4 +1,4 @@
--- What a kernel shows of its tables.
+-- A kernel's view of its tables.
 use Rattle.lot_kernel.proofs.Common.{Snapshot, ap, the_invariant, the_view, threads_of, ◌∙◌, ◌≡◌}
 use Rattle.lot_kernel.specs.declared.kernel.Kernel.TheInside.{Inside}
 use Rattle.lot_kernel.specs.declared.tables.Tables.TheInside.{Inside as TablesInside}

@@ -1,4 +1,4 @@
--- A stack of places, the last of its items first.
+-- A stack of places, the last item first.
 use Rattle.lot_kernel.proofs.Common.{IfNone, List, None, Option, Some, ap, arith, drop, length, length-append, option_to_list, refl, reverse, reverse-append, slice_get, sym, ℕ, [], ◌++◌, ◌∙◌, ◌∷◌, ◌≡◌}
 
 -- what has no length is empty

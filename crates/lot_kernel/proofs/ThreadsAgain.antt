@@ -1,6 +1,5 @@
--- A thread that is made in a free place, or removed, as the tables hold it.
-use Rattle.lot_kernel.proofs.Common.{Alive, Freed, InUse, List, NoThread, None, Option, QueueLists, Refusal, RemoveThread, Sizes, Some, State, Thread, ThreadRef, Threaded, ap, command_step, cond, drop, drop_thread, false, first_failing, free_threads, held, is_dead_in, is_none, is_thread_in_use, length, length-set, map-set, names_of, newborn, none_free, not, option_any, option_map, set_number, slice_get, slice_get-map, slice_set, sym, thread_meant, true, unless_refused, unwrap_or, with_records, with_thread, ℕ, [], ◌+◌, ◌-◌, ◌∙◌, ◌∷◌, ◌≡◌}
-use Rattle.lot_machine.specs.declared.reply.Reply.TheVariants as reply
+-- The tables after a thread is made in a free place, or removed.
+use Rattle.lot_kernel.proofs.Common.{Freed, List, None, Option, QueueLists, Sizes, Some, Thread, Threaded, ap, cond, drop, drop_thread, false, free_threads, held, length, length-set, map-set, names_of, newborn, none_free, option_map, set_number, slice_get, slice_get-map, slice_set, with_records, with_thread, ℕ, [], ◌+◌, ◌-◌, ◌∙◌, ◌∷◌, ◌≡◌}
 use Rattle.lot_kernel.proofs.Freeing.{set-place}
 use Rattle.lot_kernel.proofs.Reusing.{thread-again, thread-left}
 
@@ -38,10 +37,3 @@ thread-gone sizes freed names v new q places t none removed left =
     ap (λ (w : Threaded). held sizes (record freed { threads = places }) names w q) removed
     ∙ ap (λ free. held sizes (record freed { threads = free }) names (record v { threads = set_number v.threads t None }) q) left
     ∙ thread-left (held sizes freed names v q) none t
-
--- a dead thread that no edge leads to is removed
-pub removes-thread : (s : State) (r : ThreadRef) (t : ℕ) → Some t ≡ thread_meant s r → is_dead_in s t ≡ true → is_thread_in_use s t ≡ false → command_step s (RemoveThread r) ≡ record { state = drop_thread s t; reply = reply.Done }
-removes-thread s r t meant dead unused =
-    ap (λ (o : Option ℕ). unless_refused s (first_failing {R = Refusal} ((is_none o, NoThread) ∷ (not (option_any (is_dead_in s) o), Alive) ∷ (option_any (is_thread_in_use s) o, InUse) ∷ [])) (record { state = drop_thread s (unwrap_or o 0); reply = reply.Done })) (sym meant)
-    ∙ ap (λ b. unless_refused s (first_failing {R = Refusal} ((false, NoThread) ∷ (not b, Alive) ∷ (is_thread_in_use s t, InUse) ∷ [])) (record { state = drop_thread s t; reply = reply.Done })) dead
-    ∙ ap (λ b. unless_refused s (first_failing {R = Refusal} ((false, NoThread) ∷ (false, Alive) ∷ (b, InUse) ∷ [])) (record { state = drop_thread s t; reply = reply.Done })) unused

@@ -1,6 +1,6 @@
--- How a whole trap goes: what it does, and then how its thread goes on or leaves.
+-- A whole trap: its effect, and then the disposition of its thread.
 use Rattle.lot_kernel.proofs.Common.{Action, After, Asleep, Bool, Call, Effect, Ends, Exit, Funding, GoesOn, IsApart, IsBorrower, IsInOrder, IsQueue, IsThere, Leaves, Lend, List, Lock, MakesStale, Mutex, NoPort, Nobody, Node, None, Option, Outcome, Queued, QueuedCall, Ready, Receive, Receiving, Record, Running, RunsAlone, Serve, Served, Sizes, Sleep, Snapshot, Some, State, Status, ToMutex, ToThread, TrapRefusal, Trapped, Unlock, Waiting, Yield, after_trap, all-pass, ap, arith, at_number, before_lock, change_record, cond, effect-apart, effect_of, ends_quantum, false, finish_trap, funding_of, holder_of, holders, is_none, lend_node, lend_of, length, length-map, length-set, makes-last, map, mutex_at, nat_le, port_at, refl, runs-alone, served_at, set_number, status_of, subst, sym, threads_of, trap_effect, trap_refusal, true, with_records, with_ticks, ℕ, [], ◌&&◌, ◌++◌, ◌+◌, ◌-◌, ◌<◌, ◌∙◌, ◌∷◌, ◌≡◌}
-use Rattle.lot_machine.specs.declared.action.Action.TheVariants.{Reply as ReplyTo}
+use Rattle.lot_machine.specs.declared.trap.Trap.TheVariants.{Reply as ReplyTo}
 use Rattle.lot_machine.specs.declared.reply.Outcome.TheVariants as outcome
 use Rattle.lot_kernel.proofs.Leaving.{receivers-queue}
 use Rattle.lot_kernel.proofs.Refusing.{le-of}
@@ -13,14 +13,7 @@ effect-limits s t action = by (trap_refusal s t action) refl
   where
     done : (a : Action) → (trap_effect s t a).state.limits ≡ s.limits
     done Yield = refl
-    done (Call p number) = refl
-    done (Receive p) = refl
-    done (ReplyTo number) = refl
-    done (Serve p number) = refl
-    done (Lock m) = refl
-    done (Unlock m d) = refl
-    done Sleep = refl
-    done Exit = refl
+    done a = refl
 
     by : (o : Option TrapRefusal) → trap_refusal s t action ≡ o → (effect_of s t action).state.limits ≡ s.limits
     by None is = rw is (done action)
@@ -154,7 +147,7 @@ module _ (s : State) (t p used : ℕ) (order : IsInOrder s) (runs : status_of s.
       done (Serve port number) allowed = serve-there port number
       done (Lock m) allowed = lock-lends m allowed
       done (Unlock m d) allowed = unlock-there m d
-      done Sleep allowed = λ status e node to. absurd (lends-nothing s.limits Asleep status refl e node to)
+      done (Sleep n) allowed = λ status e node to. absurd (lends-nothing s.limits Asleep status refl e node to)
       done Exit allowed = λ status e. absurd (ends-nowhere status e)
 
       by : (o : Option TrapRefusal) → trap_refusal s t action ≡ o → LendsThere (effect_of s t action).state (effect_of s t action).after

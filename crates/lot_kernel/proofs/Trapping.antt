@@ -1,6 +1,6 @@
--- What a trap's checks say, and what it leaves in the tables.
+-- A trap's checks, and the tables after it.
 use Rattle.lot_kernel.proofs.Common.{AlreadyOwner, Bool, Freed, Funding, GoesOn, HasNoCycle, IsInOrder, IsNowhere, IsRunning, IsThere, IsTrue, Lend, LendsLead, List, LockCycle, Meter, Mutex, MutexTrap, NoMutex, None, NothingToReply, Option, Port, PortTrap, QueueLists, QueuedCall, Reaches, Record, Refused, Running, Sizes, Some, State, Status, Threaded, ap, arith, at_number, at_number-suc, at_port, before_lock, borrower, borrower_of, call, change_record, effect_of, eq-eqb, false, first_client, first_failing, held, if◌then◌else◌, is_no_mutex, is_none, le-ltb, lends_lead, lends_lead-exact, lends_on_to, length, length-set, lock, ltb-false, mutex_at, nat_lt, ne_eqb, nowhere-running, of_mutexes, of_ports, option_and_then, option_any, owns, port_at, reaches-leads, receive, record-of, refl, reply, serve, slice_get, status_of, subst, suc, sym, trap_refusal, true, unlock, unwrap_or, value_of, with_mutexes, with_ports, with_records, without_servers, worth_in, zero, ℕ, [], ◌-◌, ◌<◌, ◌||◌, ◌↔◌, ◌∙◌, ◌∷◌, ◌≡◌, ◌≢◌, ◌≤◌}
-use Rattle.lot_machine.specs.declared.action.Action.TheVariants as action
+use Rattle.lot_machine.specs.declared.trap.Trap.TheVariants as action
 use Rattle.lot_machine.specs.declared.funding.Node.TheVariants as node
 use Rattle.lot_kernel.proofs.Holding.{IsHeld, held-records}
 

@@ -1,4 +1,4 @@
--- Changes that touch nothing: neither the graph changes, nor who is live.
+-- Changes that touch nothing: neither the graph changes, nor the live threads.
 use Rattle.lot_kernel.proofs.Common.{Bool, Contains, Funding, IsChangedEdge, IsChangedLife, IsChangedNode, IsTouched, List, MakesStaleIn, Node, PathLeads, Record, Some, Threaded, ap, at_number, at_number-map, change_record, contains-at, contains-nothing, funding_in, inl, inr, live_in, map, map-set, number-kept, option_map, refl, set_number, subst, sym, ℕ, [], ◌-◌, ◌∙◌, ◌∷◌, ◌≡◌, ◌⊎◌}
 
 same-edge : (f : Funding) (from to : Node) → ¬ IsChangedEdge f f from to

@@ -1,7 +1,7 @@
 -- The counts of events: edges read, and places of the tree of weights visited.
 use Rattle.std.specs.Prelude.{◌≡◌, ℕ, List, [], ◌∷◌, Contains, Some, if◌then◌else◌}
-use Rattle.lot_machine.specs.declared.action.Action.{Action}
-use Rattle.lot_machine.specs.declared.action.Action.TheVariants.{Unlock}
+use Rattle.lot_machine.specs.Actions.{Action}
+use Rattle.lot_machine.specs.declared.trap.Trap.TheVariants.{Unlock}
 use Rattle.lot_machine.specs.declared.event.Event.{Event}
 use Rattle.lot_machine.specs.declared.event.Event.TheVariants.{Draw, Trap}
 use Rattle.lot_machine.specs.declared.funding.Node.{Node}
@@ -38,19 +38,19 @@ with_ticket_read meter t = if is_funding t then record meter { ticket_reads = co
 abbrev pub KeepsStale : Snapshot → Snapshot → Type 0
 KeepsStale old new = (x : Node) → Contains old.stale x → Contains new.stale x
 
--- no value is computed: stale nodes remain stale, and the counts stay
+-- computes no value: stale nodes remain stale, and the counts stay
 pub record CountsNothing (old new : Snapshot) : Type 0 where
   pub kept : KeepsStale old new
   pub meter : new.meter ≡ old.meter
 
--- no node is stale any more, and each edge into a stale node was read once: no node was listed twice
+-- afterwards no node is stale, and each edge into a stale node was read once: no node was listed twice
 pub record Settles (old new : Snapshot) : Type 0 where
   pub fresh : new.stale ≡ []
   pub once : HasNoneTwice old.stale
   pub reads : new.meter.ticket_reads ≡ (settled_meter old).ticket_reads
 
--- For its lottery, an unlock that passes its mutex on reads each edge into a stale node once and visits no place of
--- the tree; then the old owner and the next one are stale.
+-- For its lottery, an unlock that passes its mutex on reads each edge into a stale node once and visits no place of the
+-- tree. Afterwards the old owner and the next one are stale.
 pub record PassesOn (mutex to : ℕ) (old new : Snapshot) : Type 0 where
   pub once : HasNoneTwice old.stale
   pub meter : new.meter ≡ settled_meter old
@@ -62,10 +62,9 @@ abbrev pub CountsTrap : Action → Outcome → Snapshot → Snapshot → Type 0
 CountsTrap (Unlock mutex d) (Passed to draw) old new = PassesOn mutex to old new
 CountsTrap action outcome old new = CountsNothing old new
 
--- The counts of an event, given its reply. A draw that isn't refused settles. With a winner it visits at least one
--- place of the tree of weights, and at most as many as there are digits in any binary numeral of the limit on
--- threads; otherwise it visits none. For a trap see `CountsTrap`; any other event, and a refused draw, counts
--- nothing.
+-- The counts of an event, given its reply. A draw that the kernel doesn't refuse settles. With a winner it visits at
+-- least one place of the tree of weights, and at most as many as any binary numeral of the limit on threads has digits;
+-- otherwise it visits none. For a trap see `CountsTrap`. Any other event, and a refused draw, counts nothing.
 abbrev pub Counts : Event → Reply → Snapshot → Snapshot → Type 0
 Counts (Draw processor d) (Winner thread number total delivered) old new =
     Settles old new × CountsReads old.state.limits.threads old.meter.tree_visits new.meter.tree_visits
@@ -73,7 +72,7 @@ Counts (Draw processor d) Idle old new = Settles old new × (new.meter.tree_visi
 Counts (Trap processor ran action) (Trapped thread ticks outcome ends) old new = CountsTrap action outcome old new
 Counts event reply old new = CountsNothing old new
 
--- one event and its reply, the nodes that it makes stale, and its counts
+-- one event and its reply, the nodes that get stale, and the event's counts
 pub record IsDone (event : Event) (answer : Reply) (old new : Snapshot) : Type 0 where
   pub reply : answer ≡ (step old.state event).reply
   pub state : new.state ≡ (step old.state event).state

@@ -1,4 +1,4 @@
--- The free places that the kernel keeps for numbers that are given again.
+-- The free places that a kernel keeps for `reuse`.
 use Rattle.std.specs.Prelude.{◌≡◌, ℕ, ◌+◌, Some, None, [], if◌then◌else◌, slice_get}
 use Rattle.lot_machine.specs.declared.sizes.Sizes.{Sizes}
 use Rattle.lot_machine.specs.State.{State, Freed, free_threads}
@@ -12,11 +12,11 @@ none_free = record { tickets = []; currencies = []; threads = [] }
 abbrev pub freed_in : Stacks → Freed
 freed_in s = record { tickets = s.tickets.places; currencies = s.currencies.places; threads = s.threads.places }
 
--- the room for this many places: for each of them if numbers are given again, and otherwise for none
+-- the capacity for this many places: all of them with `reuse`, otherwise none
 abbrev pub room_for : Sizes → ℕ → ℕ
 room_for sizes places = if sizes.reuse then places else 0
 
--- if numbers are given again, there is room for each place within the limits; there is no other room
+-- with `reuse`, capacity for each place within the limits; otherwise none
 pub record HasRoomFor (sizes : Sizes) (s : Stacks) : Type 0 where
   pub tickets : s.tickets.room ≡ room_for sizes sizes.tickets
   pub currencies : s.currencies.room ≡ room_for sizes (sizes.currencies + 1)

@@ -7,3 +7,4 @@ pub mod Names
 pub mod FreeStacks
 pub mod Searching
 pub mod Lending
+pub mod Checked

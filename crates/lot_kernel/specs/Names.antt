@@ -7,11 +7,11 @@ use Rattle.lot_machine.specs.Commands.{is_no_name}
 use Rattle.lot_lists.specs.NodeLists.{NodeLists}
 use Rattle.lot_graph.specs.Mirrors.{Mirrors}
 
--- the hash of a name, that of the library's maps
+-- the hash of a name, as the library's maps compute it
 abbrev pub hash_of : List ℕ → ℕ
 hash_of name = folding.finish (folding.write folding.initial name)
 
--- the bucket of a name, of this many; no bytes have none
+-- the name's bucket among this many; none for a name without bytes
 abbrev pub bucket_of : ℕ → List ℕ → Option ℕ
 bucket_of buckets name = if is_no_name name then None else Some (hash_of name % buckets)
 
@@ -19,8 +19,8 @@ bucket_of buckets name = if is_no_name name then None else Some (hash_of name % 
 abbrev pub bucket_at : ℕ → List (Option (List ℕ)) → ℕ → Option ℕ
 bucket_at buckets names place = option_and_then (bucket_of buckets) (option_flatten (slice_get names place))
 
--- a place that has a name is in the list of the name's bucket; any other place, as that of a thread without a name, is
--- in no list
+-- A place that has a name is in the list of the name's bucket. Any other place, such as that of a thread without a
+-- name, is in no list.
 abbrev pub IsIndexOf : NodeLists → List (Option (List ℕ)) → Type 0
 IsIndexOf v names = Mirrors v (bucket_at (length v.lists) names)
 

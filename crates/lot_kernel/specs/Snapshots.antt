@@ -11,13 +11,13 @@ use Rattle.lot_queues.specs.QueueLists.{QueueLists, IsThere}
 use Rattle.lot_value.specs.declared.meter.Meter.{Meter}
 use Rattle.lot_threads.specs.Threaded.{Threaded}
 
--- the machine's state, the stale nodes, whose values are recomputed before they are used, and the counts
+-- the machine's state, the stale nodes, whose values a reader recomputes first, and the counts
 pub record Snapshot : Type 0 where
   pub state : State
   pub stale : List Node
   pub meter : Meter
 
--- the snapshot at the start: the opening state, nothing stale, and nothing counted
+-- the snapshot at the start: the opening state, no stale node, and counts of 0
 abbrev pub starting : Sizes → Snapshot
 starting sizes = record { state = opening sizes; stale = []; meter = record { ticket_reads = 0; tree_visits = 0 } }
 
@@ -60,7 +60,7 @@ held sizes freed currencies threads queues = record {
   freed = freed;
 }
 
--- these are the ports and the mutexes of a kernel with these sizes, and nobody waits for a holder of a port's server
+-- the ports and the mutexes of a kernel with these sizes; nobody waits for the holder of a port's server
 pub record HasHolders (sizes : Sizes) (q : QueueLists) : Type 0 where
   pub ports : length q.ports ≡ sizes.ports
   pub mutexes : length q.mutexes ≡ holders sizes

@@ -1,6 +1,6 @@
 -- A trap that has passed the checks of its event.
 use Rattle.std.specs.Prelude.{◌≡◌, ℕ, Option, Some, None, List}
-use Rattle.lot_machine.specs.declared.action.Action.{Action}
+use Rattle.lot_machine.specs.Actions.{Action}
 use Rattle.lot_machine.specs.declared.record.Record.{Record}
 use Rattle.lot_machine.specs.declared.record.Status.TheVariants.{Running}
 use Rattle.lot_machine.specs.declared.reply.Outcome.{Outcome}
@@ -26,7 +26,7 @@ effect_of s t action = checked_effect s (trap_refusal s t action) (trap_effect s
 abbrev pub trapped : State → Trap → Action → Step
 trapped s trap action = finish_trap s trap.processor.number trap.thread.number trap.ticks trap.used (effect_of s trap.thread.number action)
 
--- who took a call by the thread's trap with this outcome
+-- the thread that took a call by this trap with this outcome, if one did
 abbrev pub taker : ℕ → Outcome → Option ℕ
 taker t (ServedBy server) = Some server
 taker t (Received client number) = Some t

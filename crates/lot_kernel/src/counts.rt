@@ -33,7 +33,7 @@ pub(crate) fn count_backing(graph: &Graph, currency: u32) -> u32
     count
 }
 
-/// Whether there is a ticket and the currency issues it.
+/// Whether the ticket exists and the currency issues it.
 fn is_issued(ticket: Option<Ticket>, currency: u32) -> bool
     ensures { result ≡ option_any (λ t. t.issuer == currency) ticket }
 {
@@ -43,7 +43,7 @@ fn is_issued(ticket: Option<Ticket>, currency: u32) -> bool
     }
 }
 
-/// Whether there is a ticket and it funds the currency.
+/// Whether the ticket exists and funds the currency.
 fn is_backing(ticket: Option<Ticket>, currency: u32) -> bool
     ensures { result ≡ option_any (λ t. funding.is_currency currency t.target) ticket }
 {

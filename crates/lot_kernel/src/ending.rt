@@ -8,7 +8,8 @@ ghost use Rattle.lot_machine.specs.Traps.{after_trap, with_ticks};
 
 use lot_machine::{After, Limits, Processor, Record, Status, ThreadNumber};
 
-/// A trap: its thread and processor, its cost with the work before it, and the quantum used after it, both in ticks.
+/// A trap: its thread and processor, its cost including the work before it, and the quantum used after it, both in
+/// ticks.
 #[derive(Clone, Copy)]
 pub(crate) struct Trap {
     pub(crate) processor: Processor,
@@ -73,7 +74,7 @@ fn going_on(before: Record, trap: Trap, limits: &Limits) -> Record
     }
 }
 
-/// The compensation of a thread that used this many ticks: none if the machine gives none.
+/// The compensation of a thread that used this many ticks, or `None` in a kernel without compensation (4.5).
 pub(crate) fn compensation_for(limits: &Limits, ticks: u32) -> Option<u32>
     ensures { result ≡ traps.compensation_for (sizes_of limits.now) ticks }
 {
@@ -83,7 +84,7 @@ pub(crate) fn compensation_for(limits: &Limits, ticks: u32) -> Option<u32>
     Some(ticks)
 }
 
-/// Whether the quantum of the thread that made the trap ends with it.
+/// Whether the trap ends its thread's quantum.
 pub(crate) fn ends_quantum(trap: Trap, after: After, quantum: u32) -> bool
     ensures { result ≡ steps.ends_quantum after trap.used quantum }
 {

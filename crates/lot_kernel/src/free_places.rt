@@ -1,4 +1,4 @@
-//! The free places of one table, for numbers that are given again.
+//! The free places of one table, for `reuse`.
 ghost use Rattle.std.specs.Prelude.{◌≡◌, ◌<◌, ◌≤◌, ◌∷◌, [], true, IfNone, IfOk, length, drop, slice_get, if◌then◌else◌};
 ghost use Rattle.lot_machine.specs.Places.{is_none_free};
 
@@ -6,7 +6,7 @@ use lot_kept::Stack;
 use std::alloc::{AllocError, Global};
 use std::marker::Model;
 
-/// The free places of one table, in a stack: the one left last comes first.
+/// A stack of the free places of one table.
 #[derive(Drop)]
 pub(crate) struct FreePlaces {
     places: Stack<u32>,
@@ -22,7 +22,7 @@ impl Model for FreePlaces {
 }
 
 impl FreePlaces {
-    /// No free place yet, and room for this many.
+    /// No free place, with capacity for `room`.
     pub(crate) fn new(alloc: Global, room: u32) -> Result<Self, AllocError>
         ensures empty { IfOk result (λ made. made.places ≡ []) }
         ensures room { IfOk result (λ made. made.room ≡ room) }
@@ -32,7 +32,7 @@ impl FreePlaces {
         })
     }
 
-    /// The number of places that there is room for.
+    /// The capacity, in places.
     pub(crate) fn room(&self) -> usize
         ensures { result ≡ self.now.room }
     {
@@ -46,7 +46,7 @@ impl FreePlaces {
         self.places.is_empty()
     }
 
-    /// Leaves a place: it is the first one then.
+    /// Frees a place. The next `pop` returns it.
     fn push(&mut self, place: u32)
         requires room { length self.old.places < self.old.room }
         ensures { self.new ≡ record self.old { places = place ∷ self.old.places } }
@@ -54,7 +54,7 @@ impl FreePlaces {
         self.places.push(place);
     }
 
-    /// Leaves a place, if places are given again.
+    /// Frees a place if `reuse` is set, and otherwise does nothing.
     pub(crate) fn leave(&mut self, place: u32, reuse: bool)
         requires room { reuse ≡ true → length self.old.places < self.old.room }
         ensures { self.new ≡ record self.old {
@@ -66,7 +66,7 @@ impl FreePlaces {
         }
     }
 
-    /// Takes the first place, or `None` if none is free.
+    /// Takes the place that was freed last, or returns `None` if none is free.
     pub(crate) fn pop(&mut self) -> Option<u32>
         ensures first { result ≡ slice_get self.old.places 0 }
         ensures rest { self.new ≡ record self.old { places = drop 1 self.old.places } }

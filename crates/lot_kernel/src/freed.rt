@@ -1,4 +1,4 @@
-//! The free places of the tables, which the next tickets, currencies and threads get if numbers are given again.
+//! The free places of the tables. With `reuse` the next tickets, currencies and threads get them.
 ghost use Rattle.std.specs.Prelude.{◌≡◌, ◌≤◌, ◌<◌, ◌+◌, ◌*◌, ◌^◌, IfOk, if◌then◌else◌};
 ghost use Rattle.lot_machine.specs.State.{sizes_of};
 ghost use Rattle.lot_kernel.specs.FreePlaces.{none_free, freed_in, HasRoomFor};
@@ -8,7 +8,7 @@ use lot_machine::Limits;
 use std::alloc::{AllocError, Global};
 use std::mem::size_of;
 
-// The memory of one place.
+// The bytes of one place.
 const PLACE_BYTES: u64 = size_of::<u32>() as u64;
 
 /// The free places of tickets, currencies and threads.
@@ -30,7 +30,7 @@ impl Drop for Freed {
 }
 
 impl Freed {
-    /// No free place yet. It has room for each place within the limits if numbers are given again.
+    /// No free place. With `reuse` it has capacity for each place within the limits, otherwise for none.
     pub(crate) fn new(alloc: Global, limits: &Limits) -> Result<Self, AllocError>
         ensures none { IfOk result (λ made. freed_in made ≡ none_free) }
         ensures room { IfOk result (HasRoomFor (sizes_of limits.now)) }
@@ -42,7 +42,7 @@ impl Freed {
         })
     }
 
-    /// The total of bytes that `new` requests from the allocator.
+    /// The number of bytes that `new` requests from the allocator.
     pub(crate) fn bytes(limits: &Limits) -> u64
         ensures bytes { result ≡ (if limits.now.reuse
             then 4 * (limits.now.tickets + limits.now.currencies + limits.now.threads) + 4 else 0) }
@@ -54,7 +54,7 @@ impl Freed {
         PLACE_BYTES * (limits.tickets as u64 + limits.currencies as u64 + limits.threads as u64 + 1)
     }
 
-    /// The bytes that it has room for: those that `new` requested.
+    /// The capacity in bytes: always exactly what `new` requested.
     pub(crate) fn held(&self) -> u64
         requires few { self.now.tickets.room + self.now.currencies.room + self.now.threads.room < 2 ^ 40 }
         ensures { result ≡ 4 * (self.now.tickets.room + self.now.currencies.room + self.now.threads.room) }
@@ -66,7 +66,7 @@ impl Freed {
     }
 }
 
-/// Room for this many places if numbers are given again, otherwise for none.
+/// The capacity for this many places: all of them with `reuse`, otherwise none.
 fn room_for(limits: &Limits, places: u32) -> u32
     ensures { result ≡ (if limits.now.reuse then places else 0) }
 {

@@ -1,10 +1,8 @@
 //! The kernel and its events.
-ghost use Rattle.std.specs.Prelude.{◌≡◌, ◌<◌, ◌≤◌, ◌+◌, ◌^◌, All, None, Some, IfNone, IfOk, IfSome};
-ghost use Rattle.std.specs.Prelude.{MatchOption, false, length, option_and_then, option_map, true};
-ghost use Rattle.std.specs.Prelude.{if◌then◌else◌};
+ghost use Rattle.std.specs.Prelude.{◌≡◌, ◌<◌, ◌≤◌, ◌+◌, ◌^◌, All, None, Some, IfNone, IfOk, IfSome, MatchOption};
+ghost use Rattle.std.specs.Prelude.{false, length, option_and_then, option_map, true, if◌then◌else◌};
 ghost use Rattle.std.specs.Borrow.{sem};
 ghost use Rattle.lot_machine.specs.Bounds.{IsBetween};
-ghost use Rattle.lot_machine.specs.Commands as commands;
 ghost use Rattle.lot_machine.specs.Mutexes.{mutex_at};
 ghost use Rattle.lot_machine.specs.Lends.{is_live};
 ghost use Rattle.lot_machine.specs.State.{funding_of, live_of, sizes_of, status_of, thread_at, thread_on, used_by};
@@ -29,7 +27,7 @@ use lot_graph::Above;
 use lot_kept::Stack;
 use lot_machine::{
     CurrencyNumber, CurrencyRow, Event, Limits, MutexNumber, Name, Node, Processor, Reply, Status,
-    Target, ThreadNumber, ThreadRef, ThreadRow, TicketNumber, TicketRow, index_of,
+    Target, ThreadNumber, ThreadRow, TicketNumber, TicketRow, index_of,
 };
 use lot_threads::Runner;
 use lot_value::Meter;
@@ -37,7 +35,7 @@ use std::alloc::{AllocError, Global};
 use std::marker::Model;
 
 /// A lottery-scheduled kernel. Contracts see it as the `State` of the machine's definitions, with the stale nodes,
-/// whose values are recomputed before they are used, and the counts.
+/// whose values it recomputes before it uses them, and the counts.
 ///
 /// `new` allocates all its memory; no event allocates.
 pub struct Kernel {
@@ -74,7 +72,7 @@ impl Kernel {
         })
     }
 
-    /// The total of bytes that `new` requests from the allocator, for a host that gives the kernel a fixed region of
+    /// The number of bytes that `new` requests from the allocator, for a host that gives the kernel a fixed region of
     /// memory. Tests compare it with the bytes that `new` requests.
     pub fn bytes(limits: &Limits) -> u64
         ensures bytes { result ≡ bytes_of (sizes_of limits.now) }
@@ -83,8 +81,7 @@ impl Kernel {
         Tables::bytes(limits)
     }
 
-    /// The bytes that the kernel's tables have room for: after each event those that `new` requested, none more and
-    /// none fewer.
+    /// The capacity of the kernel's tables, in bytes. After each event it is exactly what `new` requested.
     pub fn held(&self) -> u64
         ensures { result ≡ bytes_of self.now.state.limits }
     {
@@ -98,29 +95,29 @@ impl Kernel {
         self.tables.limits
     }
 
-    /// The value of one of base: 1, or 256 for finer shares.
+    /// The unit, 1 or 256: an active base ticket is worth its amount times the unit (4.4).
     pub fn unit(&self) -> u32
         ensures { result ≡ self.now.state.limits.unit }
     {
         self.tables.limits.unit
     }
 
-    /// The meter: the tickets, lends and owners read to compute values, and the visited places of the tree of
-    /// weights.
+    /// The meter: the tickets, lends and owners read to compute values, and the places visited in the tree of weights.
     pub fn meter(&self) -> Meter
         ensures { result ≡ self.now.meter }
     {
         self.tables.threads.meter()
     }
 
-    /// How many numbers of tickets have been given, those of removed ones included. They begin at 1.
+    /// The count of ticket numbers given so far, those of removed tickets included. They run from 1 to this.
     pub fn ticket_count(&self) -> u32
         ensures { result ≡ length self.now.state.tickets }
     {
         self.tables.threads.graph().ticket_count()
     }
 
-    /// How many numbers of currencies have been given, those of removed ones included. They begin at 0, which is base.
+    /// The count of currency numbers given so far, those of base and of removed currencies included. They run from 0 to
+    /// one below this.
     pub fn currency_count(&self) -> u32
         ensures count { result ≡ length self.now.state.currencies }
         ensures within { result ≤ self.now.state.limits.currencies + 1 }
@@ -128,7 +125,7 @@ impl Kernel {
         self.tables.currencies.len() as u32
     }
 
-    /// How many numbers of threads have been given, those of removed ones included. They begin at 1.
+    /// The count of thread numbers given so far, those of removed threads included. They run from 1 to this.
     pub fn thread_count(&self) -> u32
         ensures { result ≡ length self.now.state.records }
     {
@@ -136,8 +133,8 @@ impl Kernel {
     }
 
     /// Makes one event and returns its reply. It allocates nothing. A refused event changes nothing; a trap whose
-    /// outcome is a refusal costs its ticks. Values are computed only by a draw that isn't refused and by an unlock
-    /// that passes its mutex on.
+    /// outcome is a refusal costs its ticks. Two events compute values: a draw that the kernel doesn't refuse, and an
+    /// unlock that passes its mutex on.
     #[inline(always)]
     pub fn event(&mut self, event: &Event) -> Reply
         ensures reply { result ≡ (step self.old.state event.now).reply }
@@ -178,8 +175,9 @@ impl Kernel {
         }
     }
 
-    /// The row of the ticket with this number, or `None` if and only if it doesn't exist. Recomputes stale values and
-    /// counts that, and one read of the ticket if it funds something. Changes nothing else, and allocates nothing.
+    /// The row of the ticket with this number, or `None` if and only if it doesn't exist. Recomputes the stale values;
+    /// the meter counts that, and one read of the ticket if it funds something. Changes nothing else, and allocates
+    /// nothing.
     pub fn ticket_row(&mut self, ticket: TicketNumber) -> Option<TicketRow>
         ensures row { result ≡ rows.ticket_row self.old.state ticket.number }
         ensures state { self.new.state ≡ self.old.state }
@@ -193,7 +191,7 @@ impl Kernel {
     }
 
     /// The row of the currency with this number, or `None` if and only if it doesn't exist; base is worth its active
-    /// amount. Recomputes stale values and counts that. Changes nothing else, and allocates nothing.
+    /// amount. Recomputes the stale values, which the meter counts. Changes nothing else, and allocates nothing.
     pub fn currency_row(&mut self, currency: CurrencyNumber) -> Option<CurrencyRow>
         ensures row { result ≡ rows.currency_row self.old.state currency.number }
         ensures state { self.new.state ≡ self.old.state }
@@ -205,8 +203,8 @@ impl Kernel {
         Some(self.settle().row_of_currency(currency, name))
     }
 
-    /// The row of the thread with this number, or `None` if and only if it doesn't exist. Recomputes stale values and
-    /// counts that. Changes nothing else, and allocates nothing.
+    /// The row of the thread with this number, or `None` if and only if it doesn't exist. Recomputes the stale values,
+    /// which the meter counts. Changes nothing else, and allocates nothing.
     pub fn thread_row(&mut self, thread: ThreadNumber) -> Option<ThreadRow>
         ensures row { result ≡ rows.thread_row self.old.state thread.number }
         ensures state { self.new.state ≡ self.old.state }
@@ -219,8 +217,8 @@ impl Kernel {
         Some(self.settle().row_of_thread(thread, found, name))
     }
 
-    /// Recomputes all stale values and counts that. Rows can be read from the result, and until the next event from
-    /// `Settled::of`. Changes nothing else, and allocates nothing.
+    /// Recomputes all stale values, which the meter counts. Callers read rows from the result, or until the next event
+    /// from `Settled::of`. Changes nothing else, and allocates nothing.
     pub fn settle(&mut self) -> Settled<'_>
         ensures settled { result.kernel.now ≡ settled self.old }
         ensures once { HasNoneTwice self.old.stale }
@@ -230,8 +228,8 @@ impl Kernel {
         Settled { kernel: self }
     }
 
-    /// The thread that runs on the processor, or `None` if and only if it is idle. The ticks used are below the
-    /// quantum.
+    /// The thread that runs on the processor with the ticks of its quantum used, or `None` if and only if no thread
+    /// runs there.
     pub fn runner(&self, processor: Processor) -> Option<Runner>
         ensures thread { MatchOption result (thread_on self.now.state.records processor.number ≡ None)
             (λ r. thread_on self.now.state.records processor.number ≡ Some r.thread.number) }
@@ -256,8 +254,8 @@ impl Kernel {
         }
     }
 
-    /// Stores in `out` the threads that wait for the mutex, the one that has waited longest first; none if there is
-    /// no such mutex. It allocates nothing, since `out` has room for all threads.
+    /// Stores in `out` the threads that wait for the mutex, the longest wait first; none if there is no such mutex. It
+    /// allocates nothing, since `out` has room for all threads.
     pub fn list_waiters(&self, mutex: MutexNumber, out: &mut Stack<u32>)
         requires { self.now.state.limits.threads ≤ out.old.room }
         ensures waiters { out.new.items ≡ (mutex_at self.now.state.mutexes mutex.number).waiters }
@@ -270,13 +268,6 @@ impl Kernel {
             return;
         }
         self.tables.queues.list_waiters(mutex.number, out);
-    }
-
-    /// The number of the thread that a reference means, even of a dead one, or `None` if and only if there is none.
-    pub fn thread_meant(&self, thread: &ThreadRef) -> Option<u32>
-        ensures { result ≡ commands.thread_meant self.now.state thread.now }
-    {
-        self.tables.thread_meant(thread)
     }
 
     /// The number of the thread that owns the mutex, or `None` if it is free or doesn't exist. If queued calls lend,
@@ -298,8 +289,8 @@ impl Kernel {
         Some(self.tables.threads.record(thread)?.status)
     }
 
-    /// The thread's value, in base units, if it is live (Ready or Running), and otherwise 0. If it is, this recomputes
-    /// all stale values and counts that.
+    /// The thread's value, in base units, if it is live (Ready or Running), and otherwise 0. For a live thread it
+    /// recomputes all stale values, which the meter counts.
     pub fn live_value(&mut self, thread: ThreadNumber) -> u64
         ensures value { result ≡ (if is_live (live_of self.old.state) thread.number
             then value_of self.old.state thread.number else 0) }
@@ -315,7 +306,7 @@ impl Kernel {
         }
     }
 
-    /// Whether the thread is live: it competes or runs.
+    /// Whether the thread is live: Ready or Running.
     pub(crate) fn is_live(&self, thread: ThreadNumber) -> bool
         ensures live { result ≡ is_live (live_of self.now.state) thread.number }
         ensures there { result ≡ true → IsBetween 1 (length self.now.state.records) thread.number }
@@ -347,7 +338,6 @@ impl Kernel {
         }
     }
 
-    /// The thread's name.
     pub(crate) fn thread_name(&self, thread: ThreadNumber) -> Option<Name>
         ensures { result ≡ rows.thread_name self.now.state thread.number }
     {
@@ -360,8 +350,8 @@ impl Kernel {
         }
     }
 
-    /// The value of a currency other than base, in base units, or 0 if it was removed. It recomputes all stale values
-    /// and counts that.
+    /// The value, in base units, of a currency other than base, whose number must have been given, or 0 if it was
+    /// removed. It recomputes all stale values, which the meter counts.
     pub fn currency_value(&mut self, currency: CurrencyNumber) -> u64
         requires user { 0 < currency.number }
         requires there { currency.number < length self.old.state.currencies }
@@ -374,7 +364,7 @@ impl Kernel {
         self.settle().currency_value(currency)
     }
 
-    /// The value of all active tickets of base, in base units. No value has to be computed for it.
+    /// The total value of base's active tickets, in base units. It recomputes nothing.
     pub fn base_value(&self) -> u128
         ensures value { result ≡ base_value self.now.state }
         ensures small { result < 2 ^ 96 }
@@ -386,7 +376,7 @@ impl Kernel {
         u128::from(active) * u128::from(self.tables.limits.unit)
     }
 
-    /// A search for the currencies above a thread, with room for this kernel at any time. It allocates all the memory
+    /// A search for the currencies above a thread, with room for any state of this kernel. It allocates all the memory
     /// that the search will ever use, and fails only if out of memory.
     pub fn above(&self, alloc: Global) -> Result<Above, AllocError>
         ensures { IfOk result (HasLayoutOf self.now.state) }
@@ -405,8 +395,8 @@ impl Kernel {
         above.find(self.tables.threads.graph(), Node::Thread(thread.number));
     }
 
-    /// The ticks that the thread used before it gave up its quantum, for which it is compensated until it next wins a
-    /// draw (3.4). `None` if it is not compensated.
+    /// The thread's compensation: the ticks used of its last quantum, fewer than a quantum if it gave the rest up, and
+    /// more if the quantum ended late (3.4, 4.5). `None` if it has none.
     pub fn compensation(&self, thread: ThreadNumber) -> Option<u32>
         ensures { result ≡ option_and_then (λ r. r.compensation) (at_number self.now.state.records thread.number) }
     {

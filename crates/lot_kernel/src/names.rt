@@ -1,4 +1,4 @@
-//! The index of names, and lookup of names by it.
+//! The hash index of names.
 ghost use Rattle.std.specs.Prelude.{◌≡◌, ◌+◌, ◌*◌, ◌<◌, ◌++◌, ◌∷◌, [], ℕ, List, Option, None, Some, IfOk};
 ghost use Rattle.std.specs.Prelude.{IfSome, length, option_map, position, slice_get, slice_set};
 ghost use Rattle.std.specs.Str.{bytes_eq};
@@ -58,14 +58,14 @@ impl<'a> Hashed<'a> {
         self.name.copied()
     }
 
-    /// Whether this is the name.
+    /// Whether it is this name.
     fn is(&self, name: &Name) -> bool
         ensures { result ≡ bytes_eq self.now name.now }
     {
         self.name == name
     }
 
-    /// The bucket of the name, of this many, or `None` if the name has no bytes.
+    /// The name's bucket among `buckets`, or `None` if the name has no bytes.
     fn bucket_of(&self, buckets: u32) -> Option<usize>
         requires { 0 < buckets }
         ensures bucket { result ≡ bucket_of buckets self.now }
@@ -78,8 +78,8 @@ impl<'a> Hashed<'a> {
     }
 }
 
-/// An index of a table of names, such as those of the currencies: each place of the table that has a name is in the
-/// list of the name's bucket, and any other place is in no list.
+/// A hash index of a table of names, such as those of the currencies. A bucket's list holds the places whose names hash
+/// to the bucket; a place without a name is in no list.
 pub(crate) struct NameIndex {
     lists: Lists,
     buckets: u32,
@@ -111,7 +111,7 @@ impl Model for NameIndex {
 }
 
 impl NameIndex {
-    /// The index of an empty table, with this many buckets and room for as many places.
+    /// The index of an empty table, with `places` buckets and room for as many places.
     pub(crate) fn new(alloc: Global, places: u32) -> Result<NameIndex, AllocError>
         requires { 0 < places }
         ensures empty { IfOk result (λ made. IsIndexOf made []) }
@@ -123,21 +123,21 @@ impl NameIndex {
         })
     }
 
-    /// The total of bytes that `new` requests from the allocator.
+    /// The number of bytes that `new` requests from the allocator.
     pub(crate) fn bytes(places: u32) -> u64
         ensures { result ≡ 20 * places }
     {
         Lists::bytes(places as usize, places as usize)
     }
 
-    /// The bytes that it has room for: those that `new` requested.
+    /// The capacity in bytes: always exactly what `new` requested.
     pub(crate) fn held(&self) -> u64
         ensures { result ≡ 20 * self.now.nodes }
     {
         self.lists.held()
     }
 
-    /// Adds the name of the table's next place, or of one whose name was removed. It isn't added if it has no bytes.
+    /// Adds the name of the table's next place, or of a free one. It skips a name without bytes.
     pub(crate) fn add(&mut self, place: usize, name: &Hashed<'_>)
         requires place { place < self.old.nodes }
         requires free { IsFree self.old place }
@@ -173,7 +173,7 @@ impl NameIndex {
     }
 }
 
-/// The index of the currency with this name; none has a name without bytes.
+/// The place of the currency with this name, if there is one. No currency has a name without bytes.
 pub(crate) fn currency_place(
     index: &NameIndex,
     currencies: &[Option<Name>],
@@ -188,7 +188,7 @@ pub(crate) fn currency_place(
         .min()
 }
 
-/// The index of the thread with this name, even a dead one; none has a name without bytes.
+/// The place of the thread with this name, dead or not, if there is one. A name without bytes means none.
 pub(crate) fn thread_place(
     index: &NameIndex,
     threads: &[Option<Thread>],

@@ -17,11 +17,11 @@ use lot_machine::{
     TicketRow,
 };
 
-/// A kernel in which no value is stale. To read its rows changes nothing, so it counts nothing, and several threads may
-/// read them at once.
+/// A kernel in which no value is stale. Reading its rows neither changes nor counts anything, so several host threads
+/// may read it at once.
 #[derive(Clone, Copy)]
 pub struct Settled<'a> {
-    /// The kernel.
+    /// The kernel, none of whose values is stale.
     pub kernel: &'a Kernel,
     pub ghost settled: { kernel.now.stale ≡ [] },
 }
@@ -97,7 +97,6 @@ impl<'a> Settled<'a> {
         })
     }
 
-    /// The row of this currency with its name.
     pub(crate) fn row_of_currency(&self, currency: CurrencyNumber, name: Name) -> CurrencyRow
         requires { rows.currency_name self.now.kernel.now.state currency.number ≡ Some name }
         ensures { Some result ≡ rows.currency_row self.now.kernel.now.state currency.number }
@@ -113,7 +112,6 @@ impl<'a> Settled<'a> {
         }
     }
 
-    /// The row of this thread with its name.
     pub(crate) fn row_of_thread(&self, thread: ThreadNumber, found: Record, name: Name) -> ThreadRow
         requires found { at_number self.now.kernel.now.state.records thread.number ≡ Some found }
         requires compensation { IfSome found.compensation (λ used. 0 < used) }

@@ -13,6 +13,7 @@ ghost use Rattle.lot_kernel.specs.Memory.{bytes_of};
 ghost use Rattle.lot_kernel.specs.Names.{IsIndexOf};
 ghost use Rattle.lot_kernel.specs.Snapshots.{MakesStale, starting, threads_of};
 
+mod checks;
 mod commands;
 mod cycles;
 mod processors;
@@ -32,7 +33,7 @@ use std::alloc::{AllocError, Global};
 use std::marker::Model;
 use std::mem::size_of;
 
-// The memory of one currency's name.
+// The bytes of one currency's name.
 const NAME_BYTES: u64 = size_of::<Option<Name>>() as u64;
 
 /// The names of currencies, the threads with their values and the meter, the queues, and an index of the names.
@@ -44,7 +45,7 @@ pub(crate) struct Tables {
     pub(crate) limits: Limits,
     /// The name of each currency, base first; `None` for a removed one.
     pub(crate) currencies: Stack<Option<Name>>,
-    /// The free places, if numbers are given again.
+    /// The free places, with `reuse`.
     freed: Freed,
     pub(crate) threads: Threads,
     pub(crate) queues: Queues,
@@ -91,8 +92,8 @@ impl Model for Tables {
 }
 
 impl Tables {
-    /// The opening state: base alone, empty ports and free mutexes. It allocates all the memory that will ever be
-    /// used.
+    /// The opening state: base alone, empty ports and free mutexes. It allocates all the memory that the tables will
+    /// ever use.
     pub(crate) fn new(alloc: Global, limits: Limits) -> Result<Tables, AllocError>
         ensures { IfOk result (λ k. k ≡ starting (sizes_of limits)) }
     {
@@ -112,7 +113,7 @@ impl Tables {
         })
     }
 
-    /// The total of bytes that `new` requests from the allocator.
+    /// The number of bytes that `new` requests from the allocator.
     pub(crate) fn bytes(limits: &Limits) -> u64
         ensures bytes { result ≡ bytes_of (sizes_of limits.now) }
         ensures few { result < 2 ^ 32 }
@@ -126,7 +127,7 @@ impl Tables {
             + Freed::bytes(limits)
     }
 
-    /// The bytes that the tables have room for: those that `new` requested, whatever has happened since.
+    /// The capacity of the tables in bytes: always exactly what `new` requested.
     pub(crate) fn held(&self) -> u64
         ensures { result ≡ bytes_of self.now.state.limits }
     {
@@ -139,7 +140,7 @@ impl Tables {
             + self.freed.held()
     }
 
-    /// Recomputes all stale values, and counts that.
+    /// Recomputes all stale values, which the meter counts.
     pub(crate) fn settle(&mut self)
         ensures settled { self.new ≡ settled self.old }
         ensures once { HasNoneTwice self.old.stale }
@@ -147,8 +148,8 @@ impl Tables {
         self.threads.settle();
     }
 
-    /// The ticket with this number and its value, or `None` if and only if it doesn't exist. Settles, and counts one
-    /// read of the ticket if it funds something.
+    /// The ticket with this number and its value, or `None` if and only if it doesn't exist. Settles; the meter counts
+    /// one more read of the ticket if it funds something.
     pub(crate) fn read_ticket(&mut self, ticket: TicketNumber) -> Option<(Ticket, u64)>
         ensures found { MatchOption result (ticket_in self.old.state.tickets ticket.number ≡ None)
             (λ r. ticket_in self.old.state.tickets ticket.number ≡ Some r.0) }
@@ -192,7 +193,7 @@ impl Tables {
     }
 }
 
-/// The names of the currencies at the start, base alone, with room for this many, and their index.
+/// The names of the currencies at the start, base alone, with their index, and capacity for `room` names.
 fn opening_currencies(
     alloc: Global,
     room: u32,
@@ -214,7 +215,7 @@ fn opening_currencies(
     Ok((names, index))
 }
 
-/// No thread yet, and the index of their names.
+/// No thread, and the empty index of their names.
 fn opening_threads(alloc: Global, limits: &Limits) -> Result<(Threads, NameIndex), AllocError>
     ensures threads { IfOk result (λ made. made.0
         ≡ threads_of (opening (sizes_of limits.now)) [] (starting (sizes_of limits.now)).meter) }

@@ -1,4 +1,4 @@
--- A graph and what is kept for it, after a call of the graph.
+-- A graph with its activity, after a call of the graph.
 use Rattle.lot_kernel_tests.proofs.Common.{Activity, AddsEdge, Agree, Bool, Both, Currency, EdgeEnds, FitsLimits, Funding, IfNone, IsBorrower, IsFunding, IsLender, IsLive, IsMutex, IsSome, IsSound, IsTarget, Lend, LimitedFunding, List, Mutex, Nobody, Node, None, OfLender, OfMutex, OfTicket, OnSome, Option, Some, Target, Thread, ToMutex, ToThread, ap, at_number, at_number-suc, currencies-kept, disown-edge, edge_between, ends-there, ends_of_edge, false, fund-edge, funding-ticket, is_some, issue-kept, lend-edge, lend_node, lender-ends, length, length-append, length-set, mutex-ends, option_and_then, refl, same-ends, set_number, subst, suc, sym, target-ticket, target_node, target_of, thread-kept, unfund-edge, unlend-edge, with_currencies, with_lends, with_new_ticket, with_owners, with_target, with_tickets, zero, ℕ, [], ◌++◌, ◌+◌, ◌-◌, ◌∙◌, ◌∷◌, ◌≡◌}
 use Rattle.lot_machine.specs.declared.ticket.Target.TheVariants as target
 

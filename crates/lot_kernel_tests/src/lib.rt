@@ -1,7 +1,6 @@
 //! Tests of `lot_kernel` and all crates below it. `funding`: lists, trees, graphs, activity, values and draws;
-//! `threads`: threads, calls, locks and queues; the others: rows of events with their replies, and what draws, unlocks
-//! and rows read. They stand in a crate of their own, so that the crates that they test aren't proved a second time
-//! for them.
+//! `threads`: threads, calls, locks and queues; the others: rows of events with their replies, and the reads of draws,
+//! unlocks and rows. They are a crate of their own, so that the tested crates aren't proved a second time for them.
 #![tactic(auto)]
 
 mod nodes;

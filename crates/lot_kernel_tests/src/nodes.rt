@@ -38,7 +38,7 @@ pub fn is_target(graph: &Graph, target: Target) -> bool
     }
 }
 
-/// Whether a ticket may fund the target in place of nothing.
+/// Whether a ticket without a target may fund the target.
 pub fn may_fund(graph: &mut ValuedGraph, ticket: u32, target: Target) -> bool
     ensures unfunded { IsTrue result → target_of graph.new.now.funding ticket ≡ Some Unfunded }
     ensures target { IsTrue result → CanTarget graph.new.now.funding ticket Unfunded target }

@@ -16,7 +16,7 @@ pub fn won(thread: u32, number: u128, total: u128, delivered: Option<u32>) -> Re
     }
 }
 
-/// A trap of this thread without work before it, which doesn't end the quantum.
+/// The reply to a trap of this thread without work before it, which doesn't end the quantum.
 pub fn trapped(thread: u32, outcome: Outcome) -> Reply
     ensures { result ≡ replies.Trapped thread 1 outcome false }
 {

@@ -42,7 +42,7 @@ enum Line<'a> {
     List(Kind),
 }
 
-/// A step of a row: an event and the expected reply, or a number and the row or value that the kernel has to show.
+/// A step of a row: an event and the expected reply, or a number and the expected row or value.
 #[derive(Clone, Copy)]
 enum Step<'a> {
     Gives(Line<'a>, Reply),
@@ -53,7 +53,7 @@ enum Step<'a> {
     /// A trap on the processor with this number, without work before it: its thread, and its outcome. It costs its one
     /// tick, and doesn't end the quantum.
     Traps(u32, Action, u32, Outcome),
-    /// A trap after so many ticks of work.
+    /// A trap after this many ticks of work.
     Works(u32, u32, Action, u32, Outcome),
     Pauses(Pause, Reply),
     Ticket(TicketShown<'a>),
@@ -79,7 +79,7 @@ enum Pause {
 /// A thread that wins a draw, the number drawn, and the total.
 type Winner = (u32, u128, u128);
 
-/// A ticket's number, amount, issuer, target or `-`, what it funds by number, whether it is active, and its value.
+/// A ticket's number, amount, issuer, target or `-`, target by number, whether it is active, and its value.
 type TicketShown<'a> = (u32, u32, &'a str, &'a str, Target, bool, u64);
 
 /// A currency's number, name, backing, issued, active amount and value.
@@ -165,7 +165,7 @@ fn check_run(rt: &impl Abort, kernel: &mut Kernel, events: &[Event], replies: &[
     check_same(rt, &&*out, &replies);
 }
 
-/// The target of a ticket, which is shown as `-` for none.
+/// The target of a ticket from its text, `-` for none.
 fn target_of(rt: &impl Abort, text: &str) -> Option<Name> {
     if text == "-" {
         return None;
@@ -187,7 +187,7 @@ fn ticket_row(rt: &impl Abort, shown: TicketShown<'_>) -> TicketRow {
     }
 }
 
-/// Compares the row, and what a reader of the settled kernel is shown.
+/// Compares the row, and the one that a reader of the settled kernel gets.
 fn check_ticket(rt: &impl Abort, kernel: &mut Kernel, number: u32, row: Option<TicketRow>) {
     let number = TicketNumber { number };
     check_same_at(rt, &number, &kernel.ticket_row(number), &row);
@@ -205,7 +205,7 @@ fn currency_row(rt: &impl Abort, shown: CurrencyShown<'_>) -> CurrencyRow {
     }
 }
 
-/// Compares the row, and what a reader of the settled kernel is shown.
+/// Compares the row, and the one that a reader of the settled kernel gets.
 fn check_currency(rt: &impl Abort, kernel: &mut Kernel, number: u32, row: Option<CurrencyRow>) {
     let number = CurrencyNumber { number };
     check_same_at(rt, &number, &kernel.currency_row(number), &row);
@@ -224,14 +224,14 @@ fn thread_row(rt: &impl Abort, shown: ThreadShown<'_>) -> ThreadRow {
     }
 }
 
-/// Compares the row, and what a reader of the settled kernel is shown.
+/// Compares the row, and the one that a reader of the settled kernel gets.
 fn check_thread(rt: &impl Abort, kernel: &mut Kernel, number: u32, row: Option<ThreadRow>) {
     let number = ThreadNumber { number };
     check_same_at(rt, &number, &kernel.thread_row(number), &row);
     check_same_at(rt, &number, &kernel.settle().thread_row(number), &row);
 }
 
-/// Compares what a thread is worth.
+/// Compares a thread's value.
 fn check_value(rt: &impl Abort, kernel: &mut Kernel, thread: u32, value: u64) {
     let found = match kernel.thread_row(ThreadNumber { number: thread }) {
         Some(row) => Some(row.value),
@@ -250,7 +250,7 @@ fn event_of(pause: Pause) -> Event {
     }
 }
 
-/// The event of a step, and the reply that it wants, if it is an event.
+/// The event of a step and its expected reply, if the step is an event.
 fn event_of_step(rt: &impl Abort, step: Step<'_>) -> Option<(Event, Reply)> {
     match step {
         Step::Gives(line, reply) => Some((Event::Command(command(rt, line)), reply)),
@@ -279,7 +279,7 @@ fn take(rt: &impl Abort, kernel: &mut Kernel, step: Step<'_>) {
     }
 }
 
-/// Compares a row or a value that the kernel has to show.
+/// Compares a row or a value of the kernel.
 fn check_shown(rt: &impl Abort, kernel: &mut Kernel, step: Step<'_>) {
     match step {
         Step::Ticket(shown) => check_ticket(rt, kernel, shown.0, Some(ticket_row(rt, shown))),
@@ -312,15 +312,14 @@ fn play(rt: &impl Abort, alloc: Global, steps: &[Step<'_>]) {
     take_all(rt, &mut kernel, steps)
 }
 
-/// Takes the steps in a new kernel of the largest tables, after it got threads of these names with this much base each.
+/// Takes the steps in a new kernel of the largest tables, with threads of these names and this much base each.
 fn play_funded(rt: &impl Abort, alloc: Global, threads: &[(u64, &str)], steps: &[Step<'_>]) {
     let mut kernel = largest(rt, alloc, 1);
     fund(rt, &mut kernel, threads);
     take_all(rt, &mut kernel, steps)
 }
 
-/// Takes the first and then the last steps in a new kernel, after it got threads of these names with this much base
-/// each.
+/// Takes the first and then the last steps in a new kernel, with threads of these names and this much base each.
 fn play_both(
     rt: &impl Abort,
     alloc: Global,
@@ -398,7 +397,7 @@ fn kernel_of(rt: &impl Abort, alloc: Global, sizes: Sizes) -> Kernel {
     Kernel::new(alloc, limits).expect(rt, "memory")
 }
 
-/// A trap of this thread after so many ticks of work, which doesn't end the quantum.
+/// The reply to a trap of this thread after this many ticks of work, which doesn't end the quantum.
 fn trapped_after(thread: u32, ran: u32, outcome: Outcome) -> Reply {
     Reply::Trapped {
         thread,
@@ -408,7 +407,7 @@ fn trapped_after(thread: u32, ran: u32, outcome: Outcome) -> Reply {
     }
 }
 
-/// The reply to a draw with this winner of a row, and the number delivered to the thread.
+/// The reply to a draw with this winner, and the number delivered to the thread.
 fn winning((thread, number, total): Winner, delivered: Option<u32>) -> Reply {
     won(thread, number, total, delivered)
 }
@@ -753,7 +752,7 @@ fn shares(
     kernel
 }
 
-/// Compares what the threads with these numbers are worth.
+/// Compares the values of the threads with these numbers.
 fn check_values(rt: &impl Abort, kernel: &mut Kernel, values: &[(u32, u64)]) {
     for (thread, value) in values {
         check_value(rt, kernel, *thread, *value);
@@ -872,7 +871,7 @@ const TWO_LEVELS: &[Step<'static>] = &[
     Step::Value(2, 50),
 ];
 
-/// The state once the lower thread has exited.
+/// The state after the lower thread has exited.
 const ONE_LEVEL: &[Step<'static>] = &[
     Step::Gives(Line::Fund(4, "a"), Reply::Refused(Refusal::DeadThread)),
     Step::Wins(1, 99, (2, 99, 100), None),
@@ -1151,7 +1150,7 @@ const REFUSED: &[Step<'static>] = &[
     Step::Gives(Line::Rmcur("g"), Reply::Refused(Refusal::InUse)),
 ];
 
-/// In each line the reply names the first check that fails, though later ones would fail too.
+/// In each line the reply names the first check that fails, even if later ones would fail too.
 #[test]
 fn refused_commands(rt: HostRuntime) {
     play_small(&rt, rt.alloc(), (2, 1, 1), REFUSED)

@@ -1,4 +1,4 @@
--- In how many of all the ways in which lotteries may be drawn a place wins, and how often.
+-- The number of draws of n lotteries in which an index wins, and how often.
 use Rattle.lot_laws.proofs.Common.{All, All-contains, Bool, Contains, Contains-append_cases, Contains-append_left, Contains-append_right, Contains-get_or, HasEachOnce, IsApart, List, None, Option, Ready, Some, State, add-mul, all_draws, ap, apart-append, apart-map, apart-range, arith, cases_lt, choose, cond, contains-later, contains-mapped, contains-nothing, count_by, count_by-le-length, draws_first_won_after, eq-eqb, eqb-false, eqb-true, false, first_win, flat_map, get_or, inl, inr, length, length-range_with_len, lists_of, map, mapped-contains, mul_comm, ne_eqb, once-from, option_any, option_map, place-share, place_wins, pow-suc, pow-succ', pow-zero, range-contains, range_with_len, refl, slice_get, squared_distance, status_of, subst, suc, sum, sum-mapped, sum-nothing, sum-plus, sum-same, sum-times, sum_by, sum_by-append, sum_by-cons, sym, thread-share, thread_wins, total_weight, true, weight_of, wins_in_all, zero, ℕ, [], ◌*◌, ◌+◌, ◌-◌, ◌<◌, ◌==◌, ◌^◌, ◌∙◌, ◌∷◌, ◌≡◌, ◌≤◌, ◌⊎◌}
 
 -- ---- sums over lists of n elements

@@ -1,4 +1,4 @@
--- Only `settkt` of a ticket gives it another amount; and each run leaves what it doesn't affect.
+-- Only `settkt` of a ticket gives it another amount; and each run leaves the values of nodes that it doesn't affect.
 use Rattle.lot_laws.proofs.Common.{Affects, All, All-head, All-tail, BadAmount, BaseFixed, Bool, Command, Console, Currency, Cycle, DeadThread, Done, Event, Fund, HasEquation, IsInOrder, IsThere, KeepsAmount, Kill, List, MakeCurrency, MakeFunded, MakeThread, MakeTicket, NoTarget, NoTicket, Node, None, NotFunding, Option, Record, Refusal, RemoveCurrency, RemoveThread, RemoveTicket, RemovesTicket, SetTicket, SetsAmountOf, Sizes, Some, State, Step, Target, Thread, Ticket, Unfund, all-pass, ap, arith, at_number, by_event, cases_eq, command_effect, command_refusal, command_step, cond, contains-at, currency_or_base, false, flatten-some, free_tickets, funding_of, inl, inr, is_bad_amount, is_currency, is_cycle, is_dead_thread, is_funding, is_none, lend_of, length, length-map, live_of, next_thread, node_value, not, number-push, number-set, number-set_same, number-stays, number-there, option_any, option_flatten, option_map, order-sound, other-tickets, place_of, placed, refl, reissued, retargeted, run-order, set_number, slice_get, some-injective, some-of, state_after, step, step-grown, step-limits, step-order, subst, suc, sym, target_meant, ticket_at, ticket_in, true, unless_refused, unrefused, unwrap_or, with_amount, with_new_ticket, with_target, without_ticket, worth_in, zero, ℕ, [], ◌++◌, ◌-◌, ◌∙◌, ◌∷◌, ◌≡◌, ◌≢◌, ◌≤◌, ◌⊎◌}
 use Rattle.lot_machine.specs.declared.ticket.Target.TheVariants as target
 use Rattle.lot_machine.specs.declared.command.Command.TheVariants.{List as Listing}

@@ -1,4 +1,4 @@
--- A live thread blocks and lends: what threads are worth then, by what the records say of each thread's status.
+-- A live thread blocks and lends: the values of threads afterwards, by the statuses in the records.
 use Rattle.lot_laws.proofs.Common.{Bool, Funding, FundsThere, HasNoCycle, IsBacked, IsLive, Lend, List, Nobody, None, OwnsNothing, Record, Served, Sizes, Some, State, Status, ToThread, ap, at_number, backing_thread, borrower, borrower_of, cond, false, filter, funding_of, if◌then◌else◌, is_backed, is_live_status, lend_of, lends_lead, lends_lead-exact, length, length-map, live_in, live_of, map, numbers, option_and_then, option_map, own_value, range_with_len, refl, some-injective, status_of, sum_by, sym, thread_value, true, value_of, ℕ, [], ◌+◌, ◌∙◌, ◌≡◌, ◌≢◌, ◌⊎◌}
 use Rattle.lot_laws.proofs.Lending.{lending, same-borrower, leads-itself, woken-on, woken-back, stays-on, stays-back, lent-worth, backed-same}
 use Rattle.lot_laws.proofs.Trapped.{lend-is, live-is}

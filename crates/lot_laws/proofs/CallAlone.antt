@@ -1,4 +1,5 @@
--- A call that is taken at once, in a kernel whose queued calls lend: nobody's call is queued at the port, so its new server gets this caller's value alone.
+-- A call taken at once, with `queued_lend`: no call is queued at the port, so its new server gets only this caller's
+-- value.
 use Rattle.lot_laws.proofs.Common.{Bool, Call, Event, HasNoCycle, IsInOrder, IsReachable, Leaves, Lend, LendsQueued, List, Mutex, NoPort, Nobody, None, Option, OwnsNothing, Ready, Receiving, Record, Running, Served, ServedBy, Some, State, TakesCall, ToMutex, ToThread, Trap, after_trap, all-pass, ap, arith, at_number, borrower, borrower_of, call, cases_eq, cond, finish_trap, funding_of, held_by, holder_of, if◌then◌else◌, inl, inr, is_live, is_none, lend_of, live_of, live_value, map, number-set, number-there, numbers, of_ports, option_and_then, option_flatten, option_map, owner_of, owners-set, port_at, refl, served_at, set_number, slice_get, status-now, status-other, status_of, step, step-order, subst, suc, sum-filter, sum-same, sym, value_of, with_server, with_ticks, ℕ, [], ◌+◌, ◌-◌, ◌∙◌, ◌∷◌, ◌≡◌, ◌≢◌, ◌≤◌, ◌⊎◌}
 use Rattle.lot_laws.proofs.Trapped.{IsDone, trap-done, lend-is}
 use Rattle.lot_laws.proofs.Lending.{same-worth, untangled-same}

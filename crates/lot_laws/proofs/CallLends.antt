@@ -1,4 +1,4 @@
--- A call that is queued while its port has a server, in a kernel whose queued calls lend: what threads are worth then.
+-- A queued call at a port with a server, with `queued_lend`: the values of threads afterwards.
 use Rattle.lot_laws.proofs.Common.{Bool, Call, Event, HasNoCycle, IsBacked, IsInOrder, Leaves, LendsLead, LendsQueued, List, Nobody, None, Queued, QueuesAt, Record, Running, Serves, Some, State, ToMutex, Trap, after_trap, ap, arith, borrower, call, change-length, cond, counts-once, false, finish_trap, funding_of, holder_of, if◌then◌else◌, is_live_status, leads_back, lend_of, lends_at, lends_lead, lends_lead-exact, length, live_of, live_value, nat_le, of_ports, option_any, option_map, owner_of, refl, served_at, status-now, status-other, status_of, step, step-order, subst, sym, true, value_of, with_server, with_ticks, ℕ, [], ◌&&◌, ◌+◌, ◌∙◌, ◌≡◌, ◌≢◌}
 use Rattle.lot_machine.specs.declared.record.Status.TheVariants.{Queued as QueuedAt}
 use Rattle.lot_laws.proofs.Trapped.{IsDone, trap-done}

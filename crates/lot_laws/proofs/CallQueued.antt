@@ -1,4 +1,4 @@
--- A call that is queued, and its receipt as the next event: what threads are worth then.
+-- A queued call, and its receipt as the next event: the values of threads afterwards.
 use Rattle.lot_laws.proofs.Common.{Call, Event, IsInOrder, Leaves, LendsServed, List, Queued, QueuesCall, Ready, Record, Running, Sizes, Some, State, TakesQueuedCall, Trap, after_trap, ap, at_number, at_number-map, call, change-length, change_record, false, filter, finish_trap, funding_of, is_live, is_live_status, lend_of, length, live_in, live_of, live_value, map, map-set, number-kept, number-set_same, numbers, of_ports, option_map, port_at, range_with_len, record-of, refl, set-set, set_number, status_of, step, step-limits, step-order, subst, sum-same, sum_by, sym, thread_value, value_of, with_ready, with_ticks, ℕ, [], ◌+◌, ◌-◌, ◌∙◌, ◌∷◌, ◌≡◌, ◌≢◌}
 use Rattle.lot_machine.specs.declared.record.Status.TheVariants.{Queued as QueuedAt}
 use Rattle.lot_laws.proofs.Trapped.{port-off, IsDone, trap-done}

@@ -1,4 +1,4 @@
--- The receipt of a queued call: what threads are worth then, against the same state with the caller Ready.
+-- The receipt of a queued call: the values of threads afterwards, against the same state with the caller Ready.
 use Rattle.lot_laws.proofs.Common.{Asleep, Bool, Dead, Event, FundsThere, GoesOn, HasNoCycle, IsBacked, IsInOrder, IsLendChain, IsLive, IsQueue, LendsServed, LendsTo, List, NoPort, Nobody, None, Option, OwnsNothing, QueuedCall, Ready, Receive, Received, Receiving, Record, Running, Served, Sizes, Some, State, Status, TakesQueuedCall, Ticket, Trap, Waiting, activates_within, after_trap, all-pass, ap, arith, at_number, backing_thread, borrower, borrower_of, cases_eq, change-length, change_record, cond, counts-once, cycle-nobody, false, finish_trap, funding_of, inl, inr, is_active, is_backed, is_backed-exact, is_live_status, is_none, is_thread, is_thread-is, lend_of, lends-off, lends_lead, lends_lead-exact, length, live_of, live_value, map, numbers, of_ports, option_and_then, option_map, own_value, port_at, receive, refl, set_number, some-injective, status-now, status-other, status_of, step, step-order, subst, sum-filter, sum-nothing, sum-same, sym, ticket_value, ticket_value-unfolds, true, value_of, with_client, with_ready, with_ticks, ℕ, [], ◌+◌, ◌∙◌, ◌∷◌, ◌≡◌, ◌≢◌, ◌⊎◌}
 use Rattle.lot_machine.specs.declared.record.Status.TheVariants.{Queued as QueuedAt}
 use Rattle.lot_machine.specs.declared.ticket.Target.TheVariants as target

@@ -1,4 +1,4 @@
--- A call that a waiting server takes: what threads are worth then.
+-- A call that a waiting server takes: the values of threads afterwards.
 use Rattle.lot_laws.proofs.Common.{Call, Event, HasNoCycle, IsInOrder, IsQueue, Leaves, LendsServed, List, NoPort, Option, OwnsNothing, Port, Ready, Receiving, Record, Running, Served, ServedBy, Some, State, TakesCall, Trap, after_trap, all-pass, ap, arith, at_number, call, cases_eq, change-length, change_record, cond, counts-once, false, finish_trap, funding_of, inl, inr, is_live_status, is_none, lend_of, lends_lead, length, live_of, live_value, of_ports, option_map, port_at, refl, set_number, some-injective, some-of, status-now, status-other, status_of, step, step-order, subst, sym, unwrap_or, value_of, with_client, with_ticks, ℕ, [], ◌+◌, ◌∙◌, ◌∷◌, ◌≡◌, ◌≢◌, ◌⊎◌}
 use Rattle.lot_laws.proofs.Trapped.{port-off, IsDone, trap-done}
 use Rattle.lot_laws.proofs.Lending.{worth-nothing}

@@ -31,6 +31,7 @@ pub use Rattle.lot_machine.proofs.OrderKept.{meant-number, meant-within, opening
 pub use Rattle.lot_machine.proofs.Places.{number-next, number-placed, number-stays, place-placed}
 pub use Rattle.lot_machine.proofs.Queues.{IsAbsent, number-set_same, queue-clients, record-of, status-now, status-other, status-set}
 pub use Rattle.lot_machine.proofs.RecordsKept.{found-runs, numbered, status-changed}
+pub use Rattle.lot_machine.proofs.RunsElsewhere.{kill-step}
 pub use Rattle.lot_machine.proofs.Shares.{place-share, thread-share}
 pub use Rattle.lot_machine.proofs.StepChanges.{By, Console, Keeps, by_event, currency-there, free-dead, kept, step-leads}
 pub use Rattle.lot_machine.proofs.StepSizes.{change-length, checked-sizes, each-length, other-sizes, other-tickets, step-grown, step-limits}
@@ -42,7 +43,7 @@ pub use Rattle.lot_machine.proofs.Unlent.{is_thread-is}
 pub use Rattle.lot_machine.proofs.Unserved.{counted, lends-off, locks-off, run-holders, served-off}
 pub use Rattle.lot_machine.proofs.ValueDepth.{ticket_value-unfolds}
 pub use Rattle.lot_machine.proofs.Weighed.{there-weighed, weighed-there}
-pub use Rattle.lot_machine.specs.Commands.{Step, are_currencies_full, are_threads_full, are_tickets_full, command_effect, command_refusal, command_step, currency_meant, currency_named, currency_or_base, drop_thread, first_failing, is_bad_amount, is_cycle, is_dead_in, is_dead_thread, is_funding, is_in_use, is_meant_by, is_name, is_no_script, is_taken, is_thread_in_use, is_thread_name, is_unfunded, newborn, target_meant, target_named, thread_meant, thread_named, unless_refused, with_thread, with_ticket}
+pub use Rattle.lot_machine.specs.Commands.{Step, are_currencies_full, are_threads_full, are_tickets_full, command_effect, command_refusal, command_step, currency_meant, currency_named, currency_or_base, drop_thread, first_failing, is_bad_amount, is_cycle, is_dead_in, is_dead_thread, is_funding, is_in_use, is_meant_by, is_name, is_no_script, is_taken, is_thread_in_use, is_thread_name, is_unfunded, kill, newborn, target_meant, target_named, thread_meant, thread_named, unless_refused, with_thread, with_ticket}
 pub use Rattle.lot_machine.specs.Named.{thread_given}
 pub use Rattle.lot_machine.specs.Ports.{PortTrap, call, clients_of, first_client, port_at, receive, reply, serve, with_client}
 pub use Rattle.lot_machine.specs.Rows.{target_name}
@@ -50,8 +51,8 @@ pub use Rattle.lot_machine.specs.State.{Mutex, Port, QueuedCall, State, change_e
 pub use Rattle.lot_machine.specs.Step.{Effect, at_port, checked_effect, draw, event_effect, event_refusal, finish_trap, is_bad_processor, is_no_mutex, of_mutexes, of_ports, owns, replies, started, state_after, step, stopped, thread_there, trap, trap_effect, trap_refusal, used_there, wake}
 pub use Rattle.lot_machine.specs.Worked.{after, fundx, settkt}
 pub use Rattle.lot_machine.specs.WorkedRuns.{two_to_one}
-pub use Rattle.lot_machine.specs.declared.action.Action.{Action}
-pub use Rattle.lot_machine.specs.declared.action.Action.TheVariants.{Call, Exit, Lock, Receive, Serve, Sleep, Unlock, Yield}
+pub use Rattle.lot_machine.specs.Actions.{Action}
+pub use Rattle.lot_machine.specs.declared.trap.Trap.TheVariants.{Call, Exit, Lock, Receive, Serve, Sleep, Unlock, Yield}
 pub use Rattle.lot_machine.specs.declared.after.After.{After}
 pub use Rattle.lot_machine.specs.declared.after.After.TheVariants.{Ends, GoesOn, Leaves}
 pub use Rattle.lot_machine.specs.declared.command.Command.{Command}

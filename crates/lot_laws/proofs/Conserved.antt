@@ -1,4 +1,4 @@
--- What base's active tickets are worth comes to the live threads, less what rounding loses.
+-- The value of base's active tickets reaches the live threads, less the rounding loss.
 use Rattle.lot_laws.proofs.Common.{Bool, ChainLeads, Funding, FundsThere, HasAmounts, HasNoCycle, IsActive, IsBacked, IsEdge, List, Node, OfTicket, Record, Some, State, Target, Ticket, Unfunded, activates_within, active_amount, active_issued, add-mul, all-nodes, all_tickets, ap, arith, at_number-suc, backing_currency, base_value, base_worth, cases_eq, cases_lt, cond, counts-once, currency_value, div-le_self, eq-eqb, eqb-false, eqb-true, false, funding_of, handed_out, inl, inr, is_active, is_active-exact, is_backed, is_backed-exact, is_currency, is_currency-is, is_thread, issued-at, issued-found, issued_in, issuer-amount, issuer-of, lend_of, lender_within, length, length-filter, length-map, list_any, live-thread, live_of, live_value, lost_at, lost_value, lt-div-mul-add, mul-add, mul-le-mul_right, ne_eqb, not, numbers, option_flatten, own_value, range_with_len, refl, rounded_tickets, slice_get, slice_get_within, some-injective, subst, suc, sum-at_most, sum-filter, sum-le, sum-le_from, sum-le_there, sum-none, sum-nothing, sum-on, sum-one, sum-plus, sum-same, sum-swap, sum-under, sum_by, sum_by-cons, sym, target-of, target_of, ticket-of, ticket_at, ticket_in-suc, ticket_value, ticket_value-unfolds, true, zero, ℕ, [], ◌&&◌, ◌*◌, ◌+◌, ◌-◌, ◌/◌, ◌<◌, ◌==◌, ◌∙◌, ◌∷◌, ◌≡◌, ◌≢◌, ◌≤◌, ◌⊎◌}
 use Rattle.lot_machine.specs.declared.ticket.Target.TheVariants.{Currency, Thread}
 use Rattle.lot_machine.specs.declared.funding.Node.TheVariants as node

@@ -1,5 +1,5 @@
--- What holds of each ticket that a command makes or aims holds of each ticket in a reachable state: no amount is 0,
--- and none funds base.
+-- A property of each ticket that a command makes or retargets holds of each ticket in a reachable state: no amount is
+-- 0, and none funds base.
 use Rattle.lot_laws.proofs.Common.{BadAmount, BadName, BaseFixed, Command, Console, Cycle, DeadThread, Event, Full, Fund, FundsNoBase, HasAmounts, IsInOrder, IsReachable, List, MakeFunded, MakeTicket, NameTaken, NoCurrency, NoScript, NoTarget, NoTicket, None, Option, RemoveTicket, SetTicket, Sizes, Some, State, Target, Ticket, Unfund, all-pass, ap, are_threads_full, are_tickets_full, arith, at_number, by_event, command_effect, command_refusal, command_step, currency_meant, currency_or_base, eqb-false, false, free_tickets, funding_of, inl, inr, is_bad_amount, is_currency, is_cycle, is_dead_thread, is_funding, is_no_script, is_none, is_taken, is_thread_name, nat_lt, next_thread, not, number-placed, number-set, opening, option_any, option_flatten, option_map, or_parts, other-tickets, placed, reached-order, refl, reissued, retargeted, set_number, some-injective, state_after, step, subst, suc, sym, target_meant, ticket_in, ticket_in-suc, true, unrefused, unwrap_or, with_amount, with_target, without_ticket, zero, ℕ, [], ◌++◌, ◌-◌, ◌<◌, ◌==◌, ◌||◌, ◌∙◌, ◌∷◌, ◌≡◌, ◌≢◌, ◌⊎◌}
 use Rattle.lot_machine.specs.declared.ticket.Target.TheVariants as target
 use Rattle.lot_machine.specs.declared.event.Event.TheVariants as event

@@ -1,4 +1,4 @@
--- What changes inside a currency, and leaves it active or inactive, changes no value outside it.
+-- A change inside a currency that stays active, or inactive, changes no value outside it.
 use Rattle.lot_laws.proofs.Common.{Bool, Currency, Edge, Encloses, Funding, FundsNoBase, FundsThere, HasAmounts, HasEquation, HasNoCycle, IsActive, IsBacked, IsChain, IsChangeInside, IsEdge, IsEdgeOfEither, IsLive, Lend, List, Nobody, Node, OfLender, OfMutex, OfTicket, Some, Thread, Ticket, ToMutex, ToThread, active_amount, ap, arith, at_number, cases_eq, ends-are, ends_of, eqb-true, false, filter, inl, inr, is_active, is_active-exact, issued-found, issued_in, issuer-amount, issuer-of, issuer_of, lend_node, list_any, node_value, refl, some-injective, subst, sum_by, sym, target-of, target_node, target_of, ticket-of, ticket_at, true, weighed_of, ℕ, [], ◌<◌, ◌==◌, ◌∙◌, ◌∷◌, ◌≡◌, ◌≢◌, ◌≤◌, ◌⊎◌}
 use Rattle.lot_machine.specs.declared.ticket.Target.TheVariants as target
 use Rattle.lot_machine.specs.declared.funding.Node.TheVariants.{Mutex}

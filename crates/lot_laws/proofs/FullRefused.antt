@@ -1,4 +1,4 @@
--- A command that is refused as full has failed its last check.
+-- A command refused as full has failed its last check.
 use Rattle.lot_laws.proofs.Common.{Bool, Full, List, None, Option, Refusal, Some, State, Step, ap, false, first_failing, refl, some-injective, sym, true, unless_refused, [], ◌++◌, ◌∙◌, ◌∷◌, ◌≡◌, ◌≢◌}
 use Rattle.lot_machine.specs.declared.reply.Reply.TheVariants.{Refused}
 

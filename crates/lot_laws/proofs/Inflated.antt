@@ -1,4 +1,4 @@
--- A ticket more inside a currency, or one with another amount: all that changes is inside it, and it stays active.
+-- A new ticket inside a currency, or another amount of one: the whole change is inside it, and it stays active.
 use Rattle.lot_laws.proofs.Common.{BaseFixed, Bool, ChangesInside, Currency, CurrencyRef, Cycle, DeadThread, Edge, Encloses, Event, Fund, Funding, FundsThere, HasAmounts, HasEquation, HasNoCycle, IsActive, IsChangeInside, IsChangedEdge, IsChangedLife, IsEdge, IsInOrder, IsLive, IsMeantInside, IsReachable, IsWellFormed, Lend, List, MakeFunded, NoTarget, NoTicket, Node, None, OfLender, OfMutex, OfTicket, Option, Record, Refusal, SetTicket, Some, State, Status, Target, TargetRef, Thread, Ticket, active_amount, all-pass, amount_in, ap, arith, at_number, at_number-map, at_number-suc, command_effect, command_refusal, cond, contains-at, currency_meant, currency_or_base, ends_of, false, flatten-some, free-dead, free_threads, free_tickets, funding_of, inl, inr, is_active, is_active-exact, is_currency, is_cycle, is_dead_thread, is_funding, is_live_status, is_none, is_unfunded, issuer-amount, issuer-of, issuer_of, lend_node, lend_of, length, live_of, map, next_place, next_thread, not, number-next, number-set, number-there, opening, option_and_then, option_any, option_flatten, option_map, placed, refl, reissued, retargeted, slice_get, some-injective, state_after, status_of, step, step-grown, subst, suc, sym, target_meant, target_node, there-weighed, ticket-of, ticket_at, ticket_in, true, unless_refused, unwrap_or, weighed-there, weighed_of, with_amount, with_target, with_thread, with_ticket, worth_in, zero, ℕ, [], ◌+◌, ◌-◌, ◌<◌, ◌∙◌, ◌∷◌, ◌≡◌, ◌≢◌, ◌≤◌, ◌⊎◌}
 use Rattle.lot_machine.specs.declared.ticket.Target.TheVariants as target
 use Rattle.lot_machine.specs.declared.record.Status.TheVariants as status

@@ -1,4 +1,4 @@
--- What nothing leads to that a change touched keeps its value.
+-- A node keeps its value if no touched node leads to it.
 use Rattle.lot_laws.proofs.Common.{Bool, Currency, Edge, Funding, FundsThere, HasEquation, HasNoCycle, IsAffected, IsChangedNode, IsEdgeOfEither, IsLive, IsPath, List, Node, OfTicket, PathLeads, Some, Thread, Ticket, active_amount, at_number, ends_of, eqb-true, inl, inr, is_active, node_value, refl, subst, sym, ticket_at, true, weighed_of, ℕ, [], ◌==◌, ◌∷◌, ◌≡◌, ◌≢◌, ◌⊎◌}
 use Rattle.lot_laws.proofs.KeptPaths.{StaysActive, ends-kept, active-same, active-there}
 use Rattle.lot_laws.proofs.KeptValues.{ends, weighed, weighed-told, live-told, amount-stays, kept-value}

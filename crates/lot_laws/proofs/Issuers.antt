@@ -1,4 +1,4 @@
--- Each ticket's issuer exists; so a removed currency issues no ticket, and none funds it.
+-- Each ticket's issuer exists, so a removed currency issues no ticket, and none funds it.
 use Rattle.lot_laws.proofs.Common.{BadAmount, BadName, BaseFixed, By, Command, Console, DropCurrency, Event, Full, Fund, Funding, InUse, IsReachable, IsThere, Keeps, List, MakeCurrency, MakeFunded, MakeTicket, NameTaken, NewCurrency, NoCurrency, NoScript, None, Option, RemoveCurrency, RemoveTicket, SetTicket, Sizes, Some, State, Ticket, Unfund, all-pass, all_tickets, any_from, ap, are_threads_full, are_tickets_full, at_number, by_event, command_effect, command_refusal, command_step, currency-there, currency_meant, currency_or_base, eq-eqb, false, filtered-some, free_currencies, free_tickets, funding_of, inl, inr, is_bad_amount, is_in_use, is_no_script, is_none, is_some, is_taken, is_thread_name, issued_in, issuer_of, kept, length, map, nat_lt, next_thread, none-of, not, number-placed, number-set, opening, option_any, option_flatten, option_map, or_parts, other-tickets, place-placed, place-set_other, place_of, placed, refl, reissued, retargeted, set_number, slice_get, slice_get-map, slice_set, some-injective, state_after, step, step-leads, subst, suc, sym, target_meant, target_of, ticket_at, ticket_in, ticket_in-suc, true, unrefused, unwrap_or, zero, ℕ, [], ◌-◌, ◌==◌, ◌||◌, ◌∙◌, ◌∷◌, ◌≡◌, ◌≢◌, ◌⊎◌}
 use Rattle.lot_machine.specs.declared.ticket.Target.TheVariants as target
 use Rattle.lot_machine.specs.declared.event.Event.TheVariants as event

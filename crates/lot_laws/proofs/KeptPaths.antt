@@ -1,4 +1,4 @@
--- Where edges and lives are kept, chains of lends and of tickets are, and so is which tickets are active.
+-- Unchanged edges and live threads leave chains of lends and of tickets unchanged, and the active tickets.
 use Rattle.lot_laws.proofs.Common.{Bool, Currency, Edge, Funding, FundsThere, HasNoCycle, IsActive, IsBacked, IsChain, IsLendChain, IsLive, Lend, LendsTo, List, Nobody, Node, None, OfLender, OfMutex, OfTicket, Option, Some, Target, Thread, Ticket, ToMutex, ToThread, ap, at_number, borrower, ends-are, ends_of, is_active, is_active-exact, issuer-of, issuer_of, lend_node, option_and_then, option_map, pair, refl, some-injective, subst, sym, target-of, target_node, target_of, there-weighed, ticket-of, ticket_at, true, weighed-there, weighed_of, ℕ, [], ◌∙◌, ◌∷◌, ◌≡◌}
 use Rattle.lot_machine.specs.declared.ticket.Target.TheVariants as target
 use Rattle.lot_machine.specs.declared.funding.Node.TheVariants.{Mutex}

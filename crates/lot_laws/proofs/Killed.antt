@@ -1,8 +1,7 @@
--- What is left of a killed thread, and of those who waited for it.
-use Rattle.lot_laws.proofs.Common.{Bool, Contains, DeadThread, Event, IsAbsent, IsAmong, IsHeir, IsInOrder, IsNextOwner, IsReachable, Kill, Kills, LendsTo, List, Mutex, NoThread, Nobody, None, Option, Owns, Port, Record, Refusal, Sizes, Some, StandsNowhere, State, Status, Step, ThreadRef, ToMutex, ToThread, WaitsForThread, after_kill, among-append_left, ap, arith, at_number, at_number-map, at_number-suc, borrower, calls-absent, change_each, clients_of, cond, contains-at, drop, each-record, each-record_either, each-record_other, ended, eq-eqb, eqb-true, false, filter_map, first_failing, funding_of, get_or, heir, heir-released, holder_of, if◌then◌else◌, inl, inr, is_dead_in, is_none, is_owned_by, killed, lend_of, lends-by, lends_at, length, lent-if, lent-to, map, meant-number, meant-within, mutex_without, number-mapped, number-set, number-set_same, opening, option_any, option_flatten, option_map, owner-either, owner_of, passed_on, place-in, port_without, record-now, record-other, refl, released, released-why, released_by, set_number, slice_get, slice_get_cases, some-injective, state_after, status_of, step, step-grown, step-order, subst, suc, sym, thread_meant, true, unless_refused, unwrap_or, without, without-absent, without-other, zero, ℕ, [], ◌-◌, ◌<◌, ◌==◌, ◌∙◌, ◌∷◌, ◌≡◌, ◌≤◌, ◌⊎◌}
+-- The state of a killed thread, and of the threads that waited for it.
+use Rattle.lot_laws.proofs.Common.{Bool, Contains, DeadThread, Event, IsAbsent, IsAmong, IsHeir, IsInOrder, IsNextOwner, IsReachable, Kill, Kills, LendsTo, List, Mutex, NoThread, Nobody, None, Option, Owns, Port, Record, Refusal, Sizes, Some, StandsNowhere, State, Status, ThreadRef, ToMutex, ToThread, WaitsForThread, after_kill, among-append_left, ap, arith, at_number, at_number-map, at_number-suc, borrower, calls-absent, change_each, clients_of, cond, contains-at, drop, each-record, each-record_either, each-record_other, ended, eq-eqb, eqb-true, false, filter_map, first_failing, funding_of, get_or, heir, heir-released, holder_of, if◌then◌else◌, inl, inr, is_dead_in, is_none, is_owned_by, kill, kill-step, killed, lend_of, lends-by, lends_at, length, lent-if, lent-to, map, meant-number, meant-within, mutex_without, number-mapped, number-set, number-set_same, opening, option_any, option_flatten, option_map, owner-either, owner_of, passed_on, place-in, port_without, record-now, record-other, refl, released, released-why, released_by, set_number, slice_get, slice_get_cases, some-injective, state_after, status_of, step, step-grown, step-order, subst, suc, sym, thread_meant, true, unless_refused, unwrap_or, without, without-absent, without-other, zero, ℕ, [], ◌-◌, ◌<◌, ◌==◌, ◌∙◌, ◌∷◌, ◌≡◌, ◌≤◌, ◌⊎◌}
 use Rattle.lot_machine.specs.declared.record.Status.TheVariants as status
 use Rattle.lot_machine.specs.declared.event.Event.TheVariants as event
-use Rattle.lot_machine.specs.declared.reply.Reply.TheVariants as reply
 use Rattle.lot_machine.proofs.Queues as queues
 use Rattle.lot_laws.proofs.EachTicket.{reachable-order}
 use Rattle.lot_laws.proofs.StayOut.{dead-nowhere}
@@ -11,17 +10,8 @@ use Rattle.lot_laws.proofs.Listed.{reachable-listed}
 
 -- ---- the state after a kill
 
--- the step of a kill of the thread that is meant, if any
-abbrev outcome : State → Option ℕ → Step
-outcome s o = unless_refused s (first_failing ((is_none o, NoThread) ∷ (option_any (is_dead_in s) o, DeadThread) ∷ [])) (record { state = killed s (unwrap_or o 0); reply = reply.Done })
-
 pub kill-is : (s : State) (thread : ThreadRef) (t : ℕ) → Kills s thread t → after_kill s thread ≡ killed s t
-kill-is s thread t (meant, done) = ap (λ o. (outcome s o).state) meant ∙ at (is_dead_in s t) (sym (ap (λ o. (outcome s o).reply) meant) ∙ done)
-  where
-    at : (b : Bool) → (unless_refused s (cond b (Some DeadThread) None) (record { state = killed s t; reply = reply.Done })).reply ≡ reply.Done
-        → (unless_refused s (cond b (Some DeadThread) None) (record { state = killed s t; reply = reply.Done })).state ≡ killed s t
-    at true e = cc
-    at false e = refl
+kill-is s thread t kills = (kill-step s thread t kills).1
 
 -- ---- who is there
 
@@ -75,13 +65,13 @@ kill-record s thread t r kills there = ap (λ (a : State). at_number a.records t
 
 pub kill-lists : (s : State) (thread : ThreadRef) (t : ℕ) → IsReachable s → Kills s thread t → StandsNowhere (after_kill s thread) t
 kill-lists s thread t reachable kills =
-    let (r, there) = meant-record s thread t reachable kills.0 in
+    let (r, there) = meant-record s thread t reachable (kill-step s thread t kills).0 in
     dead-nowhere (after_kill s thread) (step-order s (event.Command (Kill thread)) (reachable-order s reachable)) t
     (ap (option_map (λ (x : Record). x.status)) (kill-record s thread t r kills there))
 
 -- the number of a killed thread
 kill-number : (s : State) (thread : ThreadRef) (t : ℕ) → Kills s thread t → suc (t - 1) ≡ t
-kill-number s thread t kills = meant-number s thread t kills.0
+kill-number s thread t kills = meant-number s thread t (kill-step s thread t kills).0
 
 pub kill-serves : (s : State) (thread : ThreadRef) (t : ℕ) (clients : List ℕ) → Kills s thread t → at_number (after_kill s thread).clients t ≡ Some clients → clients ≡ []
 kill-serves s thread t clients kills there = from (number-set (map (without t) s.clients) t [] t)
@@ -237,12 +227,12 @@ pub kill-rest : (s : State) (thread : ThreadRef)
     → after_kill s thread ≡ record s { records = (after_kill s thread).records; clients = (after_kill s thread).clients; ports = (after_kill s thread).ports; mutexes = (after_kill s thread).mutexes }
 kill-rest s thread = from (first_failing ((is_none (thread_meant s thread), NoThread) ∷ (option_any (is_dead_in s) (thread_meant s thread), DeadThread) ∷ []))
   where
-    from : (o : Option Refusal) → (unless_refused s o (record { state = killed s (unwrap_or (thread_meant s thread) 0); reply = reply.Done })).state
+    from : (o : Option Refusal) → (unless_refused s o (kill s (unwrap_or (thread_meant s thread) 0))).state
         ≡ record s {
-          records = (unless_refused s o (record { state = killed s (unwrap_or (thread_meant s thread) 0); reply = reply.Done })).state.records;
-          clients = (unless_refused s o (record { state = killed s (unwrap_or (thread_meant s thread) 0); reply = reply.Done })).state.clients;
-          ports = (unless_refused s o (record { state = killed s (unwrap_or (thread_meant s thread) 0); reply = reply.Done })).state.ports;
-          mutexes = (unless_refused s o (record { state = killed s (unwrap_or (thread_meant s thread) 0); reply = reply.Done })).state.mutexes;
+          records = (unless_refused s o (kill s (unwrap_or (thread_meant s thread) 0))).state.records;
+          clients = (unless_refused s o (kill s (unwrap_or (thread_meant s thread) 0))).state.clients;
+          ports = (unless_refused s o (kill s (unwrap_or (thread_meant s thread) 0))).state.ports;
+          mutexes = (unless_refused s o (kill s (unwrap_or (thread_meant s thread) 0))).state.mutexes;
         }
     from None = refl
     from (Some refusal) = refl

@@ -1,4 +1,4 @@
--- Threads that lend to one thread, against the same state with all of them Ready: what threads are worth.
+-- Threads that lend to one thread, against the same state with all of them Ready: the values of threads.
 use Rattle.lot_laws.proofs.Common.{Bool, Contains, FundsThere, HasNoCycle, IsApart, IsBacked, IsLendChain, IsLive, LendsLead, LendsTo, List, None, Ready, Record, Some, State, Status, ap, arith, at_number, borrower, borrower_of, cases_eq, change-length, change_each, change_record, cond, contains-later, counts-once, cycle-nobody, false, funding_of, inl, inr, is_live_status, lend_of, lends-by, lends_lead, lends_lead-exact, length, live_of, live_value, option_and_then, option_map, refl, some-injective, status-now, status-other, status_of, subst, sum_by, sum_by-cons, sym, true, value_of, with_ready, zero, ℕ, [], ◌+◌, ◌∙◌, ◌∷◌, ◌≡◌, ◌≢◌, ◌⊎◌}
 use Rattle.lot_laws.proofs.Trapped.{lend-is, live-is}
 use Rattle.lot_laws.proofs.KeptValues.{same-bool}

@@ -1,4 +1,4 @@
--- One thread more lends: what threads are worth then, if the same tickets stay active.
+-- One more thread lends: the values of threads afterwards, if the same tickets stay active.
 use Rattle.lot_laws.proofs.Common.{Bool, Funding, FundsThere, HasNoCycle, IsActive, IsBacked, IsChain, IsLendChain, IsLive, Lend, LendsLead, LendsTo, List, Nobody, None, Option, Some, Target, Ticket, ToMutex, ToThread, active_amount, all_tickets, ap, arith, at_number, backing_currency, backing_thread, borrower, borrower_of, cases_eq, cond, eq-eqb, false, filter, if◌then◌else◌, inl, inr, is_active, is_active-exact, is_backed, is_backed-exact, is_currency, is_thread, issued_in, lends_lead, lends_lead-exact, length, length-filter, numbers, option_and_then, option_flatten, option_map, own_value, place_of, range_with_len, refl, slice_get, some-injective, subst, suc, sum-filter, sum-nothing, sum-plus, sum-same, sum-under, sum_by, sym, target-of, target_of, term-there, thread_value, ticket_at, ticket_in-suc, ticket_value, ticket_value_within, true, zero, ℕ, [], ◌*◌, ◌+◌, ◌/◌, ◌==◌, ◌↔◌, ◌∙◌, ◌∷◌, ◌≡◌, ◌≢◌, ◌⊎◌}
 use Rattle.lot_machine.specs.declared.ticket.Target.TheVariants as target
 use Rattle.lot_machine.proofs.Tickets as tickets

@@ -1,4 +1,4 @@
--- A thread that waits for a mutex: what threads are worth then.
+-- A thread that waits for a mutex: the values of threads afterwards.
 use Rattle.lot_laws.proofs.Common.{AlreadyOwner, Bool, Event, Funding, HasNoCycle, IsBacked, IsInOrder, Leaves, LendsLead, List, Lock, LockCycle, MayWait, Mutex, NoMutex, Nobody, None, Option, Record, Running, Some, State, ToMutex, Trap, Waiting, Waits, WaitsFor, after_trap, all-pass, ap, arith, at_number, at_number-map, before_lock, borrower, borrower_of, change-length, change_record, cond, counts-once, false, filter, finish_trap, funding_of, if◌then◌else◌, is_backed, is_live_status, is_no_mutex, is_none, lend_of, lends_lead, lends_lead-exact, lends_on_to, length, live_in, live_of, live_value, lock, locks-off, map, mutex_at, nat_lt, numbers, of_mutexes, option_any, option_flatten, option_map, or_parts, own_value, owner_of, owns, port_holders, refl, set_number, some-injective, some-of, status-now, status-other, status_of, step, step-order, subst, sum_by, sym, thread_value, true, unserved, unwrap_or, value_of, with_ticks, without_servers, ℕ, [], ◌++◌, ◌+◌, ◌∙◌, ◌∷◌, ◌≡◌, ◌≢◌}
 use Rattle.lot_laws.proofs.Trapped.{IsDone, trap-done}
 use Rattle.lot_laws.proofs.Lending.{lending}

@@ -1,4 +1,4 @@
--- Who waits at a port in a reachable state, and what the port passes on.
+-- The threads that wait at a port in a reachable state, and the value that the port passes on.
 use Rattle.lot_laws.proofs.Common.{Bool, Contains, HasOneSidedPorts, IsApart, IsInOrder, IsOneSided, IsReachable, Lend, LendsQueued, List, Nobody, None, Option, Port, QueuedCall, Some, State, Status, ToMutex, ToThread, ap, apart-from, arith, at-port, at_number, callers_of, cond, contains-at, contains-nothing, false, funding_of, holder_of, if◌then◌else◌, inl, inr, le-leb, lend_of, lends_at, ltb-false, map, nat_le, option_map, place-in, port_at, port_value, reached-one, reached-order, refl, same-sums, slice_get, some-injective, status_of, subst, sum_by, sym, true, unwrap_or, value_of, waiters_for, ℕ, [], ◌&&◌, ◌+◌, ◌∙◌, ◌≡◌, ◌≢◌, ◌≤◌}
 use Rattle.lot_machine.specs.declared.record.Status.TheVariants as status
 use Rattle.lot_laws.proofs.Trapped.{lend-is}

@@ -1,4 +1,5 @@
--- A receipt that takes a queued call, whoever was the port's server, in a reachable state of a kernel whose queued calls lend: what threads are worth then.
+-- A receipt of a queued call, whoever was the port's server, in a reachable state with `queued_lend`: the values of
+-- threads afterwards.
 use Rattle.lot_laws.proofs.Common.{By, Contains, Event, IsReachable, Keeps, LendsQueued, List, Mutex, None, Option, Port, PutPort, QueuedCall, Some, State, TakesCallAt, ap, arith, at_number, at_number-suc, by_event, callers_of, cond, contains-nothing, counted, eq-eqb, get_or, holder_of, holders, inl, inr, kept, le-leb, length, length-map, length-replicate, length-set, live_value, map, ne_eqb, number-there, opening, place-in, port_at, refl, run-holders, slice_get, slice_get_cases, slice_get_within, state_after, status_of, step, step-leads, subst, suc, sum_by, sym, unwrap_or, value_of, with_callers_ready, ℕ, [], ◌+◌, ◌-◌, ◌<◌, ◌==◌, ◌∙◌, ◌∷◌, ◌≡◌, ◌≢◌, ◌≤◌, ◌⊎◌}
 use Rattle.lot_machine.specs.declared.record.Status.TheVariants.{Queued as QueuedAt}
 use Rattle.lot_laws.proofs.PortQueues.{reachable-order, queued-listed, lender-queued, queued-lender, callers, callers-apart}

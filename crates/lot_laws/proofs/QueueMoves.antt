@@ -1,4 +1,4 @@
--- A receipt that takes a queued call, in a kernel whose queued calls lend: what threads are worth then.
+-- A receipt of a queued call, with `queued_lend`: the values of threads afterwards.
 use Rattle.lot_laws.proofs.Common.{Bool, Contains, Event, Funding, FundsThere, GoesOn, HasNoCycle, HasQueues, IsAbsent, IsApart, IsBacked, IsInOrder, IsQueue, Lend, LendsLead, LendsQueued, LendsTo, List, Mutex, NoPort, Nobody, None, Option, QueuedCall, Ready, Receive, Received, Record, Running, Served, Serves, Some, State, Status, TakesCallAt, ToMutex, ToThread, Trap, after_trap, all-pass, ap, arith, at_number, borrower, borrower_of, cases_eq, change-length, change_each, cond, contains-at, each-length, each-now, each-other, eq-eqb, false, finish_trap, flatten-some, funding_of, held_by, holder_of, if◌then◌else◌, inl, inr, is_live, is_live_status, is_none, lend_of, lends-by, lends_at, lends_lead, lends_lead-exact, length, length-map, live_of, live_value, map, nat_le, ne_eqb, number-set, number-set_same, number-there, numbers, of_ports, option_and_then, option_any, option_flatten, option_map, owner_of, owners-set, place-in, port_at, port_value, range_with_len, receive, refl, served_at, set_number, some-injective, status-now, status-other, status_of, step, step-order, subst, suc, sum-filter, sum-same, sum_by, sym, true, value_of, waiters_for, with_server, with_ticks, ℕ, [], ◌&&◌, ◌+◌, ◌-◌, ◌==◌, ◌∙◌, ◌∷◌, ◌≡◌, ◌≢◌, ◌⊎◌}
 use Rattle.lot_machine.specs.declared.record.Status.TheVariants.{Queued as QueuedAt}
 use Rattle.lot_laws.proofs.Trapped.{IsDone, trap-done, lend-is, live-is}

@@ -1,6 +1,6 @@
--- A reply: what threads are worth then.
+-- A reply: the values of threads afterwards.
 use Rattle.lot_laws.proofs.Common.{Event, GoesOn, HasNoCycle, IsBacked, IsInOrder, List, Nobody, None, NothingToReply, Option, Ready, Record, Replied, RepliesTo, Running, Served, Sizes, Some, State, Trap, after_trap, all-pass, ap, arith, borrower, borrower_of, cases_eq, change-length, change_record, clients_of, cond, counts-once, drop, false, finish_trap, first_client, funding_of, inl, inr, is_live_status, is_none, lend_of, lends_lead, length, live_of, live_value, of_ports, option_and_then, option_map, queue-clients, record-of, refl, reply, set_number, some-injective, some-of, status-now, status-other, status-set, status_of, step, step-order, subst, sym, true, unwrap_or, value_of, with_ticks, ℕ, [], ◌+◌, ◌∙◌, ◌∷◌, ◌≡◌, ◌≢◌, ◌⊎◌}
-use Rattle.lot_machine.specs.declared.action.Action.TheVariants.{Reply as ReplyTo}
+use Rattle.lot_machine.specs.declared.trap.Trap.TheVariants.{Reply as ReplyTo}
 use Rattle.lot_laws.proofs.Trapped.{IsDone, trap-done, lend-is, live-is, goes-on}
 use Rattle.lot_laws.proofs.Blocked.{lead-itself, lead-other, blocked-worth, blocked-own, served-lends}
 

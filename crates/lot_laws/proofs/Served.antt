@@ -1,4 +1,4 @@
--- A reply and a receipt in one trap: what threads are worth then.
+-- A reply and a receipt in one trap: the values of threads afterwards.
 use Rattle.lot_laws.proofs.Common.{Event, GoesOn, HasNoCycle, IsBacked, IsInOrder, IsQueue, Leaves, LendsServed, List, NoPort, Nobody, NothingToReply, OwnsNothing, QueuedCall, Ready, Receiving, Record, RepliedThenReceived, RepliedThenWaits, RepliesThenReceives, RepliesThenWaits, Running, Serve, Served, Some, State, Trap, after_trap, all-pass, ap, arith, at_number, cases_eq, change-length, change_record, clients_of, cond, counts-once, cycle-nobody, drop, false, finish_trap, first_client, funding_of, inl, inr, is_live_status, is_none, lend_of, lends_lead, length, live_of, live_value, map, of_ports, option_map, port_at, queue-clients, refl, serve, served_at, set_number, some-injective, status-now, status-other, status_of, step, step-order, subst, sym, true, unwrap_or, value_of, with_client, with_ready, with_ticks, ℕ, [], ◌++◌, ◌+◌, ◌∙◌, ◌∷◌, ◌≡◌, ◌≢◌, ◌⊎◌}
 use Rattle.lot_machine.specs.declared.record.Status.TheVariants.{Queued as QueuedAt}
 use Rattle.lot_laws.proofs.Trapped.{port-stays, port-off, IsDone, trap-done}

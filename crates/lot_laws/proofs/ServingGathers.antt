@@ -1,4 +1,5 @@
--- A serving that takes the next queued call, whoever was the port's server, in a reachable state of a kernel whose queued calls lend: what threads are worth then.
+-- A serve that takes the next queued call, whoever was the port's server, in a reachable state with `queued_lend`: the
+-- values of threads afterwards.
 use Rattle.lot_laws.proofs.Common.{Bool, Contains, Event, HasNoCycle, IsInOrder, IsReachable, LendsQueued, List, Nobody, None, Option, QueuedCall, Ready, Record, Running, Served, ServesNextAt, Some, State, Status, ToMutex, ap, arith, at_number, borrower, callers_of, cases_eq, change-length, change_each, change_record, cond, cycle-nobody, each-length, eq-eqb, first_client, funding_of, holder_of, inl, inr, is_live, is_live_status, le-leb, lend_of, lends-of, length, length-map, live_of, live_value, ne_eqb, numbers, option_and_then, option_any, option_map, place-in, queue-clients, range_with_len, refl, status-changed, status-now, status-other, status_of, step, sum-filter, sum-same, sum_by, sym, value_of, with_callers_ready, with_ready, ℕ, [], ◌+◌, ◌==◌, ◌∙◌, ◌∷◌, ◌≡◌, ◌≢◌, ◌≤◌, ◌⊎◌}
 use Rattle.lot_machine.specs.declared.record.Status.TheVariants.{Queued as QueuedAt}
 use Rattle.lot_laws.proofs.Trapped.{lend-is, live-is}

@@ -1,4 +1,4 @@
--- A reply and the receipt of a queued call in one trap, in a kernel whose queued calls lend: what threads are worth then.
+-- A reply and the receipt of a queued call in one trap, with `queued_lend`: the values of threads afterwards.
 use Rattle.lot_laws.proofs.Common.{Bool, Event, Funding, HasNoCycle, IsBacked, IsInOrder, IsLendChain, LendsLead, LendsQueued, LendsTo, List, NoPort, Nobody, None, NothingToReply, QueuedCall, Ready, Record, RepliedThenReceived, Running, Serve, Served, Serves, ServesNextAt, Some, State, ToThread, Trap, all-pass, ap, arith, at_number, borrower_of, cases_eq, change-length, clients_of, cond, drop, eq-eqb, false, finish_trap, first_client, funding_of, holder_of, inl, inr, is_none, is_to_mutex, lend_of, lends-of, lends_lead, lends_lead-exact, length, length-map, live_of, live_value, ne_eqb, numbers, of_ports, option_any, option_map, port_value, queue-clients, range_with_len, refl, serve, served_at, set_number, some-injective, status-now, status-other, status_of, step, step-order, subst, sum-filter, sum-same, sum_by, sym, true, value_of, waiters_for, with_server, ℕ, [], ◌+◌, ◌==◌, ◌∙◌, ◌∷◌, ◌≡◌, ◌≢◌, ◌⊎◌}
 use Rattle.lot_machine.specs.declared.record.Status.TheVariants.{Queued as QueuedAt}
 use Rattle.lot_laws.proofs.Trapped.{IsDone, trap-done, lend-is}

@@ -1,4 +1,4 @@
--- Who sleeps has nothing, and a sleep that ends at once is a yield.
+-- A sleeping thread has nothing, and a sleep that ends at once is a yield.
 use Rattle.lot_laws.proofs.Common.{Asleep, IsInOrder, Leaves, List, None, Option, Ready, Record, Refusal, Running, Sleep, Some, State, Status, Ticket, Trap, Wake, Yield, activates_within, after_trap, ap, at_number, borrower_of, change_record, event_effect, event_refusal, false, found-runs, funding_of, is_active, is_asleep, length, live_of, number-set_same, record-of, refl, set-set, set_number, status-now, status_of, step, sym, thread_at, thread_on, thread_there, unless_refused, used_there, value_of, wake, with_ticks, ℕ, ◌+◌, ◌-◌, ◌∙◌, ◌≡◌}
 use Rattle.lot_machine.specs.declared.ticket.Target.TheVariants as target
 use Rattle.lot_machine.specs.declared.record.Thread.{Thread}
@@ -54,13 +54,13 @@ module _ (s : State) (p t ran : ℕ) (thread : Thread) (on : thread_on s.records
       wake-sleeper slept t thread there now
       ∙ ap (λ (rs : List Record). record s { records = rs }) (again (leaves Asleep) (λ x. record x { status = Ready }) s.records t r is ∙ sym yielded)
 
-  pub sleep-wake : (step (step s (Trap p ran Sleep)).state (Wake t)).state ≡ (step s (Trap p ran Yield)).state
-  sleep-wake = by (event_refusal s (Trap p ran Sleep)) refl
+  pub sleep-wake : (step (step s (Trap p ran (Sleep tt))).state (Wake t)).state ≡ (step s (Trap p ran Yield)).state
+  sleep-wake = by (event_refusal s (Trap p ran (Sleep tt))) refl
     where
       same : thread_there s p ≡ t
       same = rw on refl
 
-      by : (o : Option Refusal) → event_refusal s (Trap p ran Sleep) ≡ o
-          → (step (unless_refused s o (event_effect s (Trap p ran Sleep))).state (Wake t)).state ≡ (unless_refused s o (event_effect s (Trap p ran Yield))).state
+      by : (o : Option Refusal) → event_refusal s (Trap p ran (Sleep tt)) ≡ o
+          → (step (unless_refused s o (event_effect s (Trap p ran (Sleep tt)))).state (Wake t)).state ≡ (unless_refused s o (event_effect s (Trap p ran Yield))).state
       by (Some refusal) is = wake-nobody s t thread there (Running p runs.0) runs.1 refl
       by None is = rw same woken

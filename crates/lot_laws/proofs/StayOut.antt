@@ -1,10 +1,10 @@
--- Nothing refers to a thread that was removed: tickets, lends and owners that an event makes name a thread that is there.
+-- Nothing refers to a removed thread: tickets, lends and owners that an event makes name an existing thread.
 use Rattle.lot_laws.proofs.Common.{Action, After, Alive, All-head, All-tail, BadProcessor, BadTicks, Bool, By, Call, Command, Console, Contains, Currency, Drawn, Edge, Effect, Ends, EndsAre, Event, Exit, Fund, Funding, GoesOn, InUse, IsAlive, IsInOrder, IsNotGiven, IsQueue, IsReachable, IsRemoved, Keeps, Kill, Leaves, Lend, List, Lock, MakeCurrency, MakeFunded, MakeThread, MakeTicket, Mutex, NewThread, NoThread, Nobody, Node, None, NotRunning, NothingLeadsToRemoved, OfLender, OfMutex, OfTicket, Option, Outcome, PutRecord, QueuedCall, Receive, Record, Refusal, RemoveCurrency, RemoveThread, RemoveTicket, Serve, SetTicket, Sizes, Sleep, Some, StandsNowhere, State, Status, Target, TargetRef, Thread, Ticket, ToMutex, ToThread, TrapRefusal, Unfund, Unlock, Yield, after_trap, alive-of, all-pass, ap, arith, at_number, at_number-map, at_number-suc, before_lock, by_event, call, change_record, checked_effect, command_effect, command_refusal, command_step, compensation_for, cond, currency_meant, currency_named, currency_or_base, draw, drop_thread, edge_count_into, edges-many, edges_into, ends-are, ends_of, event_effect, false, first_client, free_threads, free_tickets, funding_of, get_or, heir-waits, held_by, holder_of, if◌then◌else◌, inl, inr, into-once, is-dead, is_bad_processor, is_dead_in, is_meant_by, is_none, is_owned_by, is_some, is_thread_in_use, kept, killed, killed-either, leads_back, lend-at, lend_node, lend_of, lends_at, lends_lead, lends_on_to, length, lock, ltb-false, map, mutex_at, mutex_without, nat_lt, newborn, next_place, next_thread, not, number-mapped, number-placed, number-set, number-stays, number-there, of_mutexes, of_ports, opening, opening-order, option_and_then, option_any, option_flatten, option_map, option_or, other-sizes, other-tickets, owner-either, pair, place-in, place-set, place-set_same, placed, port_at, port_holders, position, position-Some, ready_threads, receive, receiver-alive, record-of, refl, reissued, remove, replies, reply, retargeted, serve, served_at, set_number, slice_get, slice_get-get_or, slice_index, slice_set, some-injective, started, state_after, status-changed, status-number, status_of, step, step-leads, step-limits, step-order, stopped, subst, suc, sym, target_meant, target_named, target_node, there-alive, thread_at, thread_given, thread_meant, thread_named, thread_on, thread_there, ticket_at, ticket_in, trap, trap_effect, trap_refusal, true, unless_refused, unlock, unrefused, unserved, unserved_at, unwrap_or, used_there, value_of, waiter-alive, wake, weight_of, winner, with_amount, with_server, with_target, with_thread, with_ticks, without, zero, ℕ, [], ◌++◌, ◌+◌, ◌-◌, ◌==◌, ◌||◌, ◌∙◌, ◌∷◌, ◌≡◌, ◌≢◌, ◌⊎◌}
 use Rattle.lot_machine.specs.declared.ticket.Target.TheVariants as target
 use Rattle.lot_machine.specs.declared.record.Thread.{Thread as ThreadRecord}
 use Rattle.lot_machine.specs.declared.record.Status.TheVariants as status
 use Rattle.lot_machine.specs.declared.funding.Node.TheVariants.{Mutex as MutexNode}
-use Rattle.lot_machine.specs.declared.action.Action.TheVariants.{Reply as ReplyTo}
+use Rattle.lot_machine.specs.declared.trap.Trap.TheVariants.{Reply as ReplyTo}
 use Rattle.lot_machine.specs.declared.command.Command.TheVariants.{List as Listing}
 use Rattle.lot_machine.specs.declared.reference.CurrencyRef.TheVariants as currency_ref
 use Rattle.lot_machine.specs.declared.reference.TargetRef.TheVariants as target_ref
@@ -307,7 +307,6 @@ module _ (s : State) (order : IsInOrder s) where
             rw is (woken, owned-set (IsIn s.threads) s.mutexes m (record { owner = Some passed; waiters = remove (w ∷ ws) place }) (λ u e. subst (IsIn s.threads) (some-injective passed u e) here) owned, λ u e. cc)
 
     effect-good : (t : ℕ) (action : Action) → IsIn s.threads t → IsGood (trap_effect s t action)
-    effect-good t Yield here = (lent, owned, λ u e. cc)
     effect-good t (Call port number) here =
         let good = call-good t port number in (good.0, owned-served t port (call s.records s.clients s.ports t port number).outcome here (call-server t port number), good.2)
     effect-good t (Receive port) here =
@@ -319,8 +318,8 @@ module _ (s : State) (order : IsInOrder s) where
         (good.0, owned-served t port (serve s.records s.clients s.ports t port number).outcome here (λ server e. absurd (serve-server t port number server e)), good.2)
     effect-good t (Lock m) here = lock-good (record s { mutexes = before_lock s t m }) t m (owned-before t m) here
     effect-good t (Unlock m d) here = unlock-good (value_of s) m d
-    effect-good t Sleep here = (lent, owned, λ u e. cc)
     effect-good t Exit here = (lent, owned-unserved (λ server. server == t) s.mutexes (port_holders s.limits) owned, λ u e. cc)
+    effect-good t action here = (lent, owned, λ u e. cc)
 
     checked-good : (t : ℕ) (action : Action) (o : Option TrapRefusal) → IsIn s.threads t → IsGood (checked_effect s o (trap_effect s t action))
     checked-good t action None here = effect-good t action here

@@ -1,4 +1,4 @@
--- What changes inside a currency over a run of events.
+-- Changes inside a currency over a run of events.
 use Rattle.lot_laws.proofs.Common.{Bool, ChangesInside, Currency, Event, HasEquation, IsReachable, IsWellFormed, List, Node, Some, State, Ticket, active_amount, amount_in, ap, currency_value, false, funding_of, if◌then◌else◌, is_active_in, live_of, ne_eqb, refl, reissued, state_after, step, subst, sym, ticket_at, ticket_value-unfolds, ticket_worth_in, true, worth_in, ℕ, [], ◌*◌, ◌/◌, ◌<◌, ◌==◌, ◌∙◌, ◌∷◌, ◌≡◌, ◌≢◌}
 use Rattle.lot_laws.proofs.EachTicket.{reachable-amounts, reachable-no-base, reachable-order, reachable-next}
 use Rattle.lot_laws.proofs.AmountsKept.{still-there, worth-after}

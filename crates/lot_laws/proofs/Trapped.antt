@@ -1,4 +1,4 @@
--- What a trap that isn't refused makes of the state, by its reply.
+-- The state after a done trap, by its reply.
 use Rattle.lot_laws.proofs.Common.{Action, BadProcessor, BadTicks, Bool, GoesOn, List, Nobody, None, NotRunning, Option, Outcome, PortTrap, Record, Refusal, Refused, Running, Sizes, Some, State, Step, Trap, TrapRefusal, Trapped, after_trap, all-pass, ap, at_number, at_number-map, at_port, checked_effect, event_effect, event_refusal, false, finish_trap, is_bad_processor, is_live_status, is_none, lend_of, live_in, map, nat_lt, of_ports, option_map, refl, served-off, served_at, status_of, step, sym, there-runs, thread_on, thread_there, trap_effect, trap_refusal, true, unless_refused, used_there, with_ticks, ℕ, [], ◌+◌, ◌∙◌, ◌∷◌, ◌≡◌}
 
 -- the thread ran on the processor, its trap wasn't refused and had this outcome, and this is the state then

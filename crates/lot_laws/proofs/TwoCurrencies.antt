@@ -1,5 +1,5 @@
--- A new thread in one of two currencies is inside it, and doesn't affect the thread in the other; nor does a ticket
--- there that gets another amount.
+-- A new thread in one of two currencies is inside it, and doesn't affect the thread in the other. Nor does another
+-- amount of a ticket there.
 use Rattle.lot_laws.proofs.Common.{Affects, Bool, ChangesInside, Currency, Edge, Encloses, Funding, IsAffected, IsChangeInside, IsChangedEdge, IsChangedLife, IsChangedNode, IsEdge, IsEdgeOfEither, IsPath, IsTouched, Lend, List, Nobody, Node, None, OfLender, OfMutex, OfTicket, Option, Some, Thread, Ticket, Touches, after, ap, arith, at_number, at_number-suc, codes, ends_of, false, first_threads, fundx, inl, inr, refl, settkt, some-injective, subst, suc, sym, there-weighed, three_threads, true, two_currencies, weighed_of, zero, ℕ, [], ◌++◌, ◌∙◌, ◌∷◌, ◌≡◌, ◌≢◌, ◌⊎◌}
 use Rattle.lot_machine.specs.declared.ticket.Target.TheVariants as target
 

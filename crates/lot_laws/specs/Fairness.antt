@@ -1,5 +1,5 @@
--- Fairness by counting, without probabilities: in how many of all the draws of n lotteries a client wins, and how
--- often (2.2). A client is given by the test of the numbers with which it wins.
+-- Fairness by counting, without probabilities: the number of draws of n lotteries that a client wins, and how often
+-- (2.2). A client is given by the test of the numbers with which it wins.
 use Rattle.std.specs.Prelude.{ℕ, zero, suc, ◌+◌, ◌-◌, ◌*◌, ◌==◌, Bool, Option, Some, None, List, [], ◌∷◌, map, flat_map, count_by, sum_by, option_map, if◌then◌else◌, codes}
 use Rattle.std.specs.List.{range_with_len}
 use Rattle.lot_machine.specs.Numbered.{option_any}
@@ -74,7 +74,7 @@ squared_distances wins total weight n = sum_by (λ draws. squared_distance (win_
 
 -- ---- two processors
 
--- how many of two processors these threads get, if processor 1 draws with d and then processor 2 with e
+-- the number of processors, of two, that these threads get if processor 1 draws with d and then processor 2 with e
 abbrev pub processors_won : State → List ℕ → ℕ → ℕ → ℕ
 processors_won s ts d e = count_by (λ t. thread_wins s 1 t d) ts + count_by (λ t. thread_wins (draw s 1 d).state 2 t e) ts
 

@@ -31,7 +31,7 @@ SetsAmountOf n e = (amount : ℕ) × (e ≡ Command (SetTicket n amount))
 abbrev pub RemovesTicket : ℕ → Event → Type 0
 RemovesTicket n e = e ≡ Command (RemoveTicket n)
 
--- a path, perhaps empty, leads to the node from one that the change touched
+-- a path, perhaps empty, leads to the node from a node that the change touched
 abbrev pub IsAffected : Funding → Funding → List Bool → List Bool → Node → Type 0
 IsAffected before after live_before live_after node =
     (touched : Node) × IsTouched before after live_before live_after touched × PathLeads before after touched node

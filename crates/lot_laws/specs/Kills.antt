@@ -3,10 +3,9 @@ use Rattle.std.specs.Prelude.{◌≡◌, ◌⊎◌, ℕ, Some, Contains, slice_g
 use Rattle.lot_machine.specs.declared.command.Command.TheVariants.{Kill}
 use Rattle.lot_machine.specs.declared.event.Event.TheVariants.{Command}
 use Rattle.lot_machine.specs.declared.reference.ThreadRef.{ThreadRef}
-use Rattle.lot_machine.specs.declared.reply.Reply.TheVariants.{Done}
+use Rattle.lot_machine.specs.declared.reply.Reply.TheVariants.{Killed}
 use Rattle.lot_machine.specs.Numbered.{at_number}
 use Rattle.lot_machine.specs.State.{State, Mutex}
-use Rattle.lot_machine.specs.Commands.{thread_meant}
 use Rattle.lot_machine.specs.Ports.{clients_of}
 use Rattle.lot_machine.specs.Step.{step}
 
@@ -14,9 +13,9 @@ use Rattle.lot_machine.specs.Step.{step}
 abbrev pub after_kill : State → ThreadRef → State
 after_kill s thread = (step s (Command (Kill thread))).state
 
--- the command kills thread t: it means t, and isn't refused
+-- the command kills thread t
 abbrev pub Kills : State → ThreadRef → ℕ → Type 0
-Kills s thread t = (thread_meant s thread ≡ Some t) × ((step s (Command (Kill thread))).reply ≡ Done)
+Kills s thread t = (step s (Command (Kill thread))).reply ≡ Killed t
 
 -- thread t owns the mutex
 abbrev pub Owns : State → ℕ → ℕ → Mutex → Type 0

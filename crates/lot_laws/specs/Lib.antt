@@ -1,6 +1,6 @@
 -- The subjects of the laws, in terms of the field.
 
--- Fairness by counting: in how many of all the draws of n lotteries a client wins (2.2).
+-- Fairness by counting: the number of draws of n lotteries that a client wins (2.2).
 pub mod Fairness
 -- Conservation: currencies pass on their value, and only rounding loses some (3.3, 4.4).
 pub mod Conservation

@@ -26,8 +26,8 @@ NothingLeadsTo f t = (from : Node) → ¬ IsEdge f from (Thread t)
 abbrev pub NothingLeadsToRemoved : State → Type 0
 NothingLeadsToRemoved s = (t : ℕ) → IsRemoved s t → NothingLeadsTo (funding_of s) t
 
--- The thread is dead, and waits nowhere: no port's receivers or queued calls hold it, nor the waiters of a mutex, nor
--- the clients of a thread.
+-- The thread is dead, and waits nowhere: neither the receivers or queued calls of a port hold it, nor the waiters of a
+-- mutex, nor the clients of a thread.
 pub record StandsNowhere (s : State) (t : ℕ) : Type 0 where
   pub dead : status_of s.records t ≡ Some Dead
   pub receivers : (p : ℕ) (port : Port) → at_number s.ports p ≡ Some port → ¬ Contains port.receivers t

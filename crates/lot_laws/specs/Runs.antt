@@ -1,6 +1,6 @@
 -- Runs and states that are small enough to compute by hand.
 use Rattle.std.specs.Prelude.{Some, ◌==◌, ◌||◌, Bool, false, List, [], ◌∷◌, ◌++◌, codes}
-use Rattle.lot_machine.specs.declared.action.Action.TheVariants.{Call, Receive, Lock, Exit}
+use Rattle.lot_machine.specs.declared.trap.Trap.TheVariants.{Call, Receive, Lock, Exit}
 use Rattle.lot_machine.specs.declared.event.Event.{Event}
 use Rattle.lot_machine.specs.declared.event.Event.TheVariants.{Draw, Trap}
 use Rattle.lot_machine.specs.declared.ticket.Target.TheVariants.{Currency, Thread}

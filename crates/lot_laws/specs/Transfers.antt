@@ -1,6 +1,6 @@
 -- Transfers: a blocked thread lends its value to the thread that it waits for (3.1, 4.6, 6.1).
 use Rattle.std.specs.Prelude.{◌≡◌, ℕ, nat_le, Bool, true, false, Some, List, [], map}
-use Rattle.lot_machine.specs.declared.action.Action.TheVariants.{Call, Receive, Reply as ReplyTo, Serve, Lock}
+use Rattle.lot_machine.specs.declared.trap.Trap.TheVariants.{Call, Receive, Reply as ReplyTo, Serve, Lock}
 use Rattle.lot_machine.specs.declared.event.Event.{Event}
 use Rattle.lot_machine.specs.declared.event.Event.TheVariants.{Trap}
 use Rattle.lot_machine.specs.declared.record.Status.TheVariants.{Ready}
@@ -51,11 +51,11 @@ abbrev pub WaitsFor : State → Event → ℕ → ℕ → Type 0
 WaitsFor s e t owner =
     (p : ℕ) × (ran : ℕ) × (m : ℕ) × (ticks : ℕ) × (ends : Bool) × (e ≡ Trap p ran (Lock m)) × ((step s e).reply ≡ Trapped t ticks Waits ends) × (owner_of (funding_of s) m ≡ Some owner)
 
--- blocked threads lend, except for those whose calls are queued
+-- blocked threads lend, except the callers of queued calls
 abbrev pub LendsServed : State → Type 0
 LendsServed s = (s.limits.without_lending ≡ false) × (s.limits.queued_lend ≡ false)
 
--- blocked threads lend, also those whose calls are queued
+-- blocked threads lend, the callers of queued calls too
 abbrev pub LendsQueued : State → Type 0
 LendsQueued s = (s.limits.without_lending ≡ false) × (s.limits.queued_lend ≡ true)
 
@@ -75,7 +75,7 @@ ServesNextAt s e port caller next server =
     (p : ℕ) × (ran : ℕ) × (number : ℕ) × (taken : ℕ) × (ticks : ℕ) × (ends : Bool) × (e ≡ Trap p ran (Serve port number))
     × ((step s e).reply ≡ Trapped server ticks (RepliedThenReceived caller next taken) ends)
 
--- the threads whose calls are queued at the port, the one that has waited longest first
+-- the threads whose calls are queued at the port, the longest wait first
 abbrev pub callers_of : List Port → ℕ → List ℕ
 callers_of ports port = map (λ call. call.caller) (port_at ports port).calls
 
@@ -83,15 +83,15 @@ callers_of ports port = map (λ call. call.caller) (port_at ports port).calls
 abbrev pub with_callers_ready : State → ℕ → State
 with_callers_ready s port = record s { records = change_each (λ r. record r { status = Ready }) s.records (callers_of s.ports port) }
 
--- what the port passes on: the sum of the values of those that lend to it, which are those whose calls are queued there
+-- the value that the port passes on: the sum of the values of the callers queued there
 abbrev pub port_value : State → ℕ → ℕ
 port_value s port = mutex_value s.limits.unit (funding_of s) (live_of s) (holder_of s.limits port)
 
--- the port is there, and the thread is its server: it took the last call there
+-- the port exists, and the thread is its server: it took the last call there
 abbrev pub Serves : State → ℕ → ℕ → Type 0
 Serves s port server = (nat_le port s.limits.ports ≡ true) × (owner_of (funding_of s) (holder_of s.limits port) ≡ Some server)
 
--- the wait closes no cycle of lends: where queued calls lend, the owner's lends don't lead to the thread through a port
+-- the wait closes no cycle of lends: with `queued_lend` the owner's lends don't lead to the thread through a port
 abbrev pub MayWait : State → ℕ → ℕ → Type 0
 MayWait s t owner = s.limits.queued_lend ≡ true → ¬ LendsLead (funding_of s) owner t
 

@@ -8,8 +8,8 @@ ghost use Rattle.lot_laws.specs.Conservation.{HasAmounts, active_issued, handed_
 ghost use Rattle.lot_laws.specs.Conservation.{rounded_tickets};
 ghost use Rattle.lot_laws.specs.Reachable.{IsReachable};
 
-/// A user currency's tickets together are worth the currency's value, less the rounding loss: at most k - 1 if k of
-/// its tickets are active (4.4).
+/// A user currency's tickets together are worth the currency's value, less the rounding loss, which is at most k - 1 if
+/// k of its tickets are active (4.4).
 pub fn currencies_hand_on()
     ensures adds_up { (f : Funding) → HasNoCycle f → FundsThere f → (unit : ℕ) (live : List Bool) (c : ℕ) → c ≢ 0
         → currency_value unit f live c ≡ handed_out unit f live c + lost_at unit f live c }
@@ -18,8 +18,8 @@ pub fn currencies_hand_on()
         → lost_at unit f live c ≤ length (active_issued f live c) - 1 }
 {}
 
-/// The live threads together are worth as much as base's active tickets, less the rounding loss: less than 1 for each
-/// active ticket of another currency.
+/// The live threads together are worth as much as base's active tickets, less the rounding loss, which is less than 1
+/// for each active ticket of another currency.
 pub fn value_is_conserved()
     ensures adds_up { (s : State) → HasNoCycle (funding_of s) → FundsThere (funding_of s)
         → base_value s ≡ live_value s + lost_value s }

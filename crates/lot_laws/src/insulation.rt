@@ -27,8 +27,8 @@ ghost use Rattle.lot_laws.specs.Insulation.{ticket_worth_in};
 ghost use Rattle.lot_laws.specs.Reachable.{IsReachable, IsWellFormed};
 
 /// Whatever changes in tickets, their amounts, lends, owners and live threads, a node keeps its value if no touched
-/// node leads to it. Nothing may make a cycle before or after. It isn't enough that the node itself isn't touched:
-/// `worked::insulation::untouched_but_affected` shows such a node, whose value changes.
+/// node leads to it. Nothing may make a cycle before or after. It isn't enough that the change leaves the node itself
+/// untouched: `worked::insulation::untouched_but_affected` shows such a node, whose value changes.
 pub fn changes_are_insulated()
     ensures { (before after : Funding) → HasNoCycle before → FundsThere before → HasNoCycle after → FundsThere after
         → (unit : ℕ) (live now_live : List Bool) (node : Node) → HasEquation before node → HasEquation after node
@@ -37,8 +37,8 @@ pub fn changes_are_insulated()
 {}
 
 /// Only `settkt` changes a ticket's amount: every other event, and every run without a `settkt` of the ticket, leaves
-/// it. If numbers are given again, the state has to be in order, and the run may not remove the ticket: the next one
-/// with its number has an amount of its own.
+/// it. With `reuse`, the state has to be in order, and the run may not remove the ticket, since the next one with its
+/// number has an amount of its own.
 pub fn amounts_stay()
     ensures event { (s : State) (e : Event) (n : ℕ) → ¬ SetsAmountOf n e → (s.limits.reuse ≡ true → IsInOrder s)
         → KeepsAmount (funding_of s) (funding_of (step s e).state) n }
@@ -85,9 +85,9 @@ pub fn changes_stay_inside()
 
 /// A change inside a currency whose active amount stays, whether a ticket is issued, funded, removed or gets another
 /// amount, changes no value outside it, not even the currency's own, and leaves the values of the currency's other
-/// tickets (3.3): a ticket that keeps its amount keeps its value, and one with a new amount is worth what this amount
-/// was worth before. Only the currency, base and nodes inside may lead inside; otherwise values outside can change,
-/// as `worked::insulation::funded_from_outside` shows.
+/// tickets (3.3): a ticket that keeps its amount keeps its value, and one with a new amount is worth as much as this
+/// amount was before. Only the currency, base and nodes inside may lead inside; otherwise values outside can change, as
+/// `worked::insulation::funded_from_outside` shows.
 pub fn currencies_insulate()
     ensures outside { (s : State) (events : List Event) (c : ℕ) (inside : Node → Bool) → IsReachable s
         → ChangesInside s (state_after s events) c inside

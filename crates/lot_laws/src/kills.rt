@@ -1,4 +1,4 @@
-//! Kills, as laws of the machine: a killed thread is nowhere, and whoever waited for it goes on (4.6, 6.1).
+//! Kills, as laws of the machine: a killed thread is nowhere, and the threads that waited for it go on (4.6, 6.1).
 ghost use Rattle.std.specs.Prelude.{◌≡◌, ◌≢◌, ℕ, List, [], Contains, Some, None, drop, slice_get};
 ghost use Rattle.lot_machine.specs.declared.reference.ThreadRef.{ThreadRef as Reference};
 ghost use Rattle.lot_machine.specs.declared.record.Record.{Record as ARecord};
@@ -12,8 +12,8 @@ ghost use Rattle.lot_laws.specs.Kills.{Kills, Owns, WaitsForThread, after_kill};
 ghost use Rattle.lot_laws.specs.Reachable.{IsReachable};
 ghost use Rattle.lot_laws.specs.Removed.{StandsNowhere};
 
-/// A killed thread is dead without compensation, and keeps its quanta and its ticks. If the state is reachable, nothing
-/// but tickets refers to it then: it stands in no list, serves nobody and owns no mutex, and no thread lends to it.
+/// A killed thread is dead without compensation, and keeps its quanta and its ticks. If the state is reachable, only
+/// tickets refer to it afterwards: it is in no queue, serves nobody and owns no mutex, and no thread lends to it.
 pub fn killed_threads_are_nowhere()
     ensures record { (s : State) (thread : Reference) (t : ℕ) (r : ARecord) → Kills s thread t
         → at_number s.records t ≡ Some r
@@ -29,8 +29,8 @@ pub fn killed_threads_are_nowhere()
 {}
 
 /// Each client of a killed thread is Ready, and so is each thread that has waited longest for one of its mutexes:
-/// nothing is delivered to it, and its compensation, quanta and ticks stay. Such a mutex belongs to that thread then,
-/// and to nobody if none waits; the others go on waiting in order.
+/// nothing is delivered to it, and its compensation, quanta and ticks stay. Afterwards that thread owns the mutex,
+/// which is free if none waits; the others go on waiting in order.
 pub fn kills_end_waits()
     ensures released { (s : State) (thread : Reference) (t u : ℕ) (r : ARecord) → IsInOrder s → Kills s thread t
         → WaitsForThread s t u → at_number s.records u ≡ Some r
@@ -41,15 +41,14 @@ pub fn kills_end_waits()
         ≡ Some (record { owner = slice_get mutex.waiters 0; waiters = drop 1 mutex.waiters }) }
 {}
 
-/// In a reachable state each thread that is served is among the clients of its server, so a kill of the server
-/// releases it.
+/// In a reachable state each served thread is among the clients of its server, so a kill of the server releases it.
 pub fn served_threads_are_listed()
     ensures { (s : State) (u server : ℕ) → IsReachable s → status_of s.records u ≡ Some (status.Served server)
         → Contains (clients_of s.clients server) u }
 {}
 
 /// A kill leaves the rest of the state: the record of each thread that doesn't wait for the killed one, each port and
-/// mutex where that one neither waits nor is the owner, the clients of each thread that doesn't serve it, and all
+/// mutex where the killed one neither waits nor is the owner, the clients of each thread that doesn't serve it, and all
 /// tickets, currencies, names and limits.
 pub fn kills_leave_the_rest()
     ensures records { (s : State) (thread : Reference) (t u : ℕ) → IsInOrder s → Kills s thread t → u ≢ t

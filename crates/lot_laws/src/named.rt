@@ -1,4 +1,4 @@
-//! Names are unique, and mean who has them.
+//! Names are unique.
 ghost use Rattle.std.specs.Prelude.{◌≡◌, ℕ, List, Some, false, true};
 ghost use Rattle.lot_machine.specs.declared.ticket.Target.{Target};
 ghost use Rattle.lot_machine.specs.Commands.{is_name, is_no_name, is_thread_name, target_named};
@@ -6,7 +6,7 @@ ghost use Rattle.lot_machine.specs.Rows.{currency_name, target_name, thread_name
 ghost use Rattle.lot_machine.specs.State.{State};
 ghost use Rattle.lot_laws.specs.Reachable.{IsReachable};
 
-/// In a reachable state a name means the one currency or thread that has it. A thread may have no name.
+/// In a reachable state a name means exactly one currency or thread. A thread may have no name.
 pub fn names_mean_who_has_them()
     ensures means { (s : State) (x : Target) (name : List ℕ) → IsReachable s → target_name s x ≡ Some name
         → is_no_name name ≡ false → target_named s name ≡ Some x }

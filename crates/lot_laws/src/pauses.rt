@@ -1,6 +1,6 @@
 //! Sleeping and waking, as laws of the machine (4.4, 4.5).
 ghost use Rattle.std.specs.Prelude.{◌≡◌, ℕ, false, Some, None};
-ghost use Rattle.lot_machine.specs.declared.action.Action.TheVariants.{Yield, Sleep};
+ghost use Rattle.lot_machine.specs.declared.trap.Trap.TheVariants.{Yield, Sleep};
 ghost use Rattle.lot_machine.specs.declared.event.Event.TheVariants.{Trap, Wake};
 ghost use Rattle.lot_machine.specs.declared.record.Status.TheVariants.{Asleep};
 ghost use Rattle.lot_machine.specs.declared.record.Thread.{Thread as AThread};
@@ -12,8 +12,8 @@ ghost use Rattle.lot_machine.specs.Order.{IsInOrder};
 ghost use Rattle.lot_machine.specs.State.{State, funding_of, live_of, status_of, thread_at, thread_on, value_of};
 ghost use Rattle.lot_machine.specs.Step.{step};
 
-/// A sleeping thread has nothing: it lends to nobody and is worth nothing, and its tickets are inactive, like those
-/// of any blocked thread that lends to nobody (4.4).
+/// A sleeping thread lends to nobody and is worth nothing, and its tickets are inactive, like those of any blocked
+/// thread that lends to nobody (4.4).
 pub fn sleepers_have_nothing()
     ensures lends { (s : State) (t : ℕ) → status_of s.records t ≡ Some Asleep
         → borrower_of (funding_of s) t ≡ None }
@@ -27,5 +27,5 @@ pub fn sleepers_have_nothing()
 pub fn a_sleep_that_ends_at_once_is_a_yield()
     ensures { (s : State) (p t ran : ℕ) (thread : AThread) → thread_on s.records p ≡ Some t
         → thread_at s.threads t ≡ Some thread
-        → (step (step s (Trap p ran Sleep)).state (Wake t)).state ≡ (step s (Trap p ran Yield)).state }
+        → (step (step s (Trap p ran (Sleep tt))).state (Wake t)).state ≡ (step s (Trap p ran Yield)).state }
 {}

@@ -1,4 +1,5 @@
-//! Nothing refers to what was removed. A removed thread stays removed, unless its number is given again.
+//! No reference to a removed thread, ticket or currency remains. A removed thread stays removed, unless `reuse` gives
+//! its number to another.
 ghost use Rattle.std.specs.Prelude.{◌≡◌, ◌≢◌, ℕ, true, List, [], Some, None, slice_get};
 ghost use Rattle.lot_machine.specs.declared.event.Event.{Event};
 ghost use Rattle.lot_machine.specs.declared.ticket.Target.TheVariants.{Currency};
@@ -12,8 +13,8 @@ ghost use Rattle.lot_laws.specs.Removed.{IsRemoved, IsNotGiven, NothingLeadsTo, 
 
 /// In a reachable state nothing refers to a removed thread: no ticket funds it, no thread lends to it, it owns no
 /// mutex, no list of waiting or served threads holds it, and it serves nobody. It is dead and stays removed, and no
-/// later event changes its record, so its quanta and ticks can be read for good; if numbers are given again, until an
-/// event gives its number to a new thread.
+/// later event changes its record, so its quanta and ticks stay readable; with `reuse` until an event gives its number
+/// to a new thread.
 pub fn removed_threads_stay_out()
     ensures edges { (s : State) (t : ℕ) → IsReachable s → IsRemoved s t → NothingLeadsTo (funding_of s) t }
     ensures lists { (s : State) (t : ℕ) → IsInOrder s → IsRemoved s t → StandsNowhere s t }
@@ -26,15 +27,15 @@ pub fn removed_threads_stay_out()
         → at_number (state_after s events).records t ≡ at_number s.records t }
 {}
 
-/// If the state is in order and no edge leads to a removed thread, none does after an event. Order alone isn't
-/// enough, since it doesn't say what tickets fund and who owns a mutex.
+/// If the state is in order and no edge leads to a removed thread, none does after an event. Order alone isn't enough,
+/// since it doesn't say which targets tickets have, or which owners mutexes.
 pub fn events_refer_to_no_removed_thread()
     ensures { (s : State) (e : Event) → IsInOrder s → NothingLeadsToRemoved s
         → NothingLeadsToRemoved (step s e).state }
 {}
 
 /// In a reachable state no ticket is issued in a removed currency, and none funds it. So a currency that gets its
-/// number begins without tickets.
+/// number starts without tickets.
 pub fn removed_currencies_have_no_tickets()
     ensures issued { (s : State) (n c : ℕ) → IsReachable s → slice_get s.currencies c ≡ Some None
         → issuer_of (funding_of s) n ≢ Some c }

@@ -1,4 +1,4 @@
-//! A kernel that gives numbers again: its limits count what exists at once.
+//! A kernel with `reuse`, whose limits count what exists at once.
 ghost use Rattle.std.specs.Prelude.{◌≡◌, ◌<◌, ◌≤◌, ◌⊎◌, true, is_some, ℕ, List, count_by};
 ghost use Rattle.lot_machine.specs.declared.event.Event.TheVariants.{Command};
 ghost use Rattle.lot_machine.specs.declared.command.Command.TheVariants.{MakeTicket, MakeCurrency, MakeThread};
@@ -10,8 +10,8 @@ ghost use Rattle.lot_machine.specs.State.{State};
 ghost use Rattle.lot_machine.specs.Step.{step};
 ghost use Rattle.lot_laws.specs.Reachable.{IsReachable};
 
-/// In a reachable state of a kernel with `reuse`, a command is refused as full only if as many tickets, currencies or
-/// threads exist as the limit allows. Base isn't counted.
+/// In a reachable state of a kernel with `reuse`, a command is refused as full only if as many tickets, user currencies
+/// or threads exist as the limit allows.
 pub fn full_means_full()
     ensures ticket { (s : State) (amount : ℕ) (currency : CurrencyRef) → IsReachable s → s.limits.reuse ≡ true
         → (step s (Command (MakeTicket amount currency))).reply ≡ Refused Full

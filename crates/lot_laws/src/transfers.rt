@@ -13,8 +13,8 @@ ghost use Rattle.lot_laws.specs.Transfers.{RepliesThenWaits, RepliesThenReceives
 ghost use Rattle.lot_laws.specs.Transfers.{TakesCallAt, ServesNextAt, Serves, port_value, callers_of};
 ghost use Rattle.lot_laws.specs.Transfers.{with_callers_ready, MayWait, WaitsFor, OwnsNothing, with_ready};
 
-/// A server with nothing of its own is worth nothing; once it takes a call, it is worth exactly what the caller was.
-/// Every other thread, and the caller, keeps its value, and so does the sum over the live threads.
+/// A server with nothing of its own is worth nothing. Once it takes a call, it is worth exactly as much as the caller
+/// was before. Every other thread, and the caller, keeps its value, and so does the sum over the live threads.
 pub fn calls_transfer_value()
     ensures before { (s : State) (server : ℕ) → IsInOrder s → OwnsNothing s server → value_of s server ≡ 0 }
     ensures server { (s : State) (e : Event) (caller server : ℕ) → IsInOrder s
@@ -29,8 +29,8 @@ pub fn calls_transfer_value()
         → OwnsNothing s server → live_value (step s e).state ≡ live_value s }
 {}
 
-/// The same where queued calls lend, in a reachable state: nobody's call is queued at the port, since a server waits
-/// there, so the port's new server gets nothing besides.
+/// The same with `queued_lend`, in a reachable state: no call is queued at the port, since a server waits there, so the
+/// port's new server gets nothing else.
 pub fn calls_taken_at_once_move_no_queue()
     ensures server { (s : State) (e : Event) (caller server : ℕ) → IsReachable s
         → LendsQueued s → TakesCall s e caller server
@@ -44,8 +44,8 @@ pub fn calls_taken_at_once_move_no_queue()
         → OwnsNothing s server → live_value (step s e).state ≡ live_value s }
 {}
 
-/// A caller is worth nothing while its call is queued. A server that takes the call gains what the caller would be
-/// worth if it were Ready; all other values and the sum are as in that case.
+/// A caller is worth nothing while its call is queued. A server that takes the call gains the value that the caller
+/// would have if it were Ready; all other values and the sum are as in that case.
 pub fn receipts_transfer_value()
     ensures queued { (s : State) (e : Event) (caller server : ℕ) → IsInOrder s → s.limits.queued_lend ≡ false
         → TakesQueuedCall s e caller server → value_of s caller ≡ 0 }
@@ -86,8 +86,8 @@ pub fn queued_calls_transfer_value()
         → live_value (step (step s e).state next).state ≡ live_value s }
 {}
 
-/// A server that replies gives back exactly what the caller is worth, which is all that it had if it is left with
-/// nothing. Every other thread, and the caller, keeps its value, and so does the sum over the live threads.
+/// A server that replies gives back exactly the caller's value, which is all its own if it is left with nothing. Every
+/// other thread, and the caller, keeps its value, and so does the sum over the live threads.
 pub fn replies_return_value()
     ensures server { (s : State) (e : Event) (caller server : ℕ) → IsInOrder s
         → s.limits.without_lending ≡ false → RepliesTo s e caller server
@@ -121,8 +121,8 @@ pub fn servings_return_value()
         → live_value (step s e).state ≡ live_value s }
 {}
 
-/// A server that replies and then takes the next caller's queued call, in one trap, gains what this caller would be
-/// worth if both callers were Ready; all other values and the sum are as in that case.
+/// A server that replies and then takes the next caller's queued call, in one trap, gains the value that this caller
+/// would have if both callers were Ready; all other values and the sum are as in that case.
 pub fn servings_transfer_value()
     ensures server { (s : State) (e : Event) (caller next server : ℕ) → IsInOrder s
         → LendsServed s → RepliesThenReceives s e caller next server
@@ -137,10 +137,10 @@ pub fn servings_transfer_value()
         → live_value (step s e).state ≡ live_value (with_ready (with_ready s caller) next) }
 {}
 
-/// If queued calls lend, a caller whose call is queued passes its value to the port's server, and to each thread to
-/// which the server's lends lead: exactly what it would pass to a server that takes its call at once. Every other
-/// thread keeps its value, and so does the sum over the live threads. The server must be backed, and its lends must not
-/// lead to the caller.
+/// With `queued_lend` a caller whose call is queued passes its value to the port's server, and to each thread to which
+/// the server's lends lead: exactly as much as to a server that takes its call at once. Every other thread keeps its
+/// value, and so does the sum over the live threads. The server must be backed, and its lends must not lead to the
+/// caller.
 pub fn queued_calls_lend()
     ensures server { (s : State) (e : Event) (caller port server : ℕ) → IsInOrder s → LendsQueued s
         → QueuesAt s e caller port → Serves s port server → IsBacked (funding_of s) (live_of s) server
@@ -160,10 +160,10 @@ pub fn queued_calls_lend()
         → live_value (step s e).state ≡ live_value s }
 {}
 
-/// If queued calls lend, a thread that takes a queued call is the port's server from then on, and what all the callers
-/// lend moves to it: the server before it, and each thread to which that one's lends lead, loses the port's value, and
-/// the new server gains it. A server that had it already, as the port's server itself, keeps its value. So does every
-/// other thread, and the sum over the live threads. The server before must be backed.
+/// With `queued_lend` a thread that takes a queued call is the port's server from then on, and the callers' loans move
+/// to it: the server before it, and each thread to which that one's lends lead, loses the port's value, and the new
+/// server gains it. A server that had it already, as the port's server itself, keeps its value. So does every other
+/// thread, and the sum over the live threads. The server before must be backed.
 pub fn receipts_move_the_queue()
     ensures gains { (s : State) (e : Event) (port caller server before : ℕ) → IsInOrder s → LendsQueued s
         → TakesCallAt s e port caller server → Serves s port before → IsBacked (funding_of s) (live_of s) before
@@ -186,9 +186,9 @@ pub fn receipts_move_the_queue()
         → live_value (step s e).state ≡ live_value s }
 {}
 
-/// If queued calls lend, a thread that takes a queued call in a reachable state gains what all the callers would be
-/// worth if they were Ready, whoever the port's server was; all other values and the sum are as in that case. So
-/// nothing is lost that waits at a port without a server, or with one that isn't backed.
+/// With `queued_lend` a thread that takes a queued call in a reachable state gains the value that all the callers would
+/// have if they were Ready, whoever was the port's server; all other values and the sum are as in that case. So no
+/// value is lost while calls wait at a port without a server, or with one that isn't backed.
 pub fn receipts_gather_the_queue()
     ensures server { (s : State) (e : Event) (port caller server : ℕ) → IsReachable s → LendsQueued s
         → TakesCallAt s e port caller server
@@ -217,10 +217,10 @@ pub fn servings_gather_the_queue()
         → live_value (step s e).state ≡ live_value (with_callers_ready (with_ready s caller) port) }
 {}
 
-/// If queued calls lend, a server that replies and then takes the next caller's queued call, in one trap, gives back
-/// what the answered caller is worth, and what all the callers lend moves to it as by a receipt alone. So the port's
-/// own server gives back exactly that much (`own`). Another one gains the port's value too (`gains`), unless it has it
-/// already (`keeps`).
+/// With `queued_lend` a server that replies and then takes the next caller's queued call, in one trap, gives back the
+/// answered caller's value, and the callers' loans move to it as by a receipt alone. So the port's own server gives
+/// back exactly that much (`own`). Another one gains the port's value too (`gains`), unless it has it already
+/// (`keeps`).
 pub fn servings_move_the_queue()
     ensures own { (s : State) (e : Event) (port caller next server : ℕ) → IsInOrder s → LendsQueued s
         → ServesNextAt s e port caller next server → Serves s port server

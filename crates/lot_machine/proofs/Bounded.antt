@@ -1,4 +1,4 @@
--- Live values stay within what base's active tickets are worth, and a draw's total within a quantum's times as much.
+-- Live values stay within the value of base's active tickets, and a draw's total within a quantum times as much.
 use Rattle.lot_machine.proofs.Common.{Asleep, Bool, Dead, FundsThere, HasNoCycle, IsSound, IsWithinBounds, None, Option, Queued, Ready, Receiving, Record, Running, RunsApart, Served, Some, State, Status, Waiting, ap, arith, at_number, base_value, cond, div-le_self, false, funding_of, is_backed, is_live, is_live_status, is_ready, length, live_of, live_value, mul-le-mul_left, mul-le-mul_right, numbers, option_and_then, option_any, option_map, own_value, ready_threads, refl, slice_get-map, status_of, suc, sum-map, sum_by, sym, total_weight, true, value_of, weight, weight_of, zero, ℕ, ◌*◌, ◌<◌, ◌^◌, ◌∙◌, ◌≡◌, ◌≤◌}
 use Rattle.lot_machine.proofs.Sums.{sum-filter, sum-le, sum-times}
 use Rattle.lot_machine.proofs.Tickets.{at_number-suc}

@@ -1,4 +1,4 @@
--- No command makes a cycle, or leaves a ticket that funds a currency which isn't there.
+-- No command makes a cycle, or leaves a ticket that funds a missing currency.
 use Rattle.lot_machine.proofs.Common.{Bool, Currency, CurrencyRef, FundsThere, HasNoCycle, List, None, Option, Refusal, Some, State, Step, Target, TargetRef, ThreadRef, Ticket, Unfunded, ap, arith, currency_funded, currency_meant, currency_named, false, first_failing, funding_of, get_or, is_cycle, is_meant_by, is_none, is_some, issuer_of, length, ltb-false, map, nat_lt, option_any, option_flatten, option_map, option_or, position, position-Some, refl, slice_get, slice_get-get_or, slice_get-map, subst, suc, sym, target_meant, target_named, thread_at, thread_meant, thread_named, ticket_in, true, unless_refused, with_target, without_ticket, would_cycle, ℕ, [], ◌+◌, ◌∙◌, ◌∷◌, ◌≡◌}
 use Rattle.lot_machine.specs.declared.ticket.Target.TheVariants.{Thread}
 use Rattle.lot_machine.specs.declared.reference.CurrencyRef.TheVariants as currency_ref

@@ -20,7 +20,7 @@ pub use Rattle.std.specs.Str.{bytes_eq}
 pub use Rattle.lot_machine.specs.Activity.{IsActive, activates_within, active_amount, is_active}
 pub use Rattle.lot_machine.specs.Bounds.{IsUnit, IsWithinBounds}
 pub use Rattle.lot_machine.specs.Change.{Change, DropCurrency, DropThread, DropTicket, NewCurrency, NewThread, NewTicket, PutClients, PutMutex, PutPort, PutRecord, PutTicket, applied, applied_all}
-pub use Rattle.lot_machine.specs.Commands.{Step, are_currencies_full, are_threads_full, are_tickets_full, command_effect, command_refusal, command_step, currency_meant, currency_named, currency_or_base, drop_currency, drop_thread, drop_ticket, first_failing, is_bad_amount, is_cycle, is_dead_in, is_dead_thread, is_funding, is_in_use, is_meant_by, is_name, is_no_name, is_no_script, is_taken, is_thread_in_use, is_thread_name, newborn, target_meant, target_named, thread_meant, thread_named, unless_refused}
+pub use Rattle.lot_machine.specs.Commands.{Step, are_currencies_full, are_threads_full, are_tickets_full, command_effect, command_refusal, command_step, currency_meant, currency_named, currency_or_base, drop_currency, drop_thread, drop_ticket, first_failing, is_bad_amount, is_cycle, is_dead_in, is_dead_thread, is_funding, is_in_use, is_meant_by, is_name, is_no_name, is_no_script, is_taken, is_thread_in_use, is_thread_name, kill, newborn, target_meant, target_named, thread_meant, thread_named, unless_refused}
 pub use Rattle.lot_machine.specs.Equations.{HasEachOnce, HasEquation, IsWay, LeadsInto, Reaches, Solves, all_edges, direct_lenders, edges_into, is_into, is_node, owned_by, share, shares_into, ticket_share}
 pub use Rattle.lot_machine.specs.Facts.{CountsOnce, FundsThere, HasNoCycle, IsSound, RunsApart, base_value, is_won_by, live_value, total_weight}
 pub use Rattle.lot_machine.specs.Funding.{ChainLeads, Funding, IsChain, IsEdge, WouldCycle, all_tickets, backing_currency, backing_thread, currencies_funded_by, currency_funded, edge_count_into, ends_of, is_currency, is_thread, is_to_mutex, is_to_thread, issued_in, issuer_of, lend_node, owner_of, reaches_within, reissued, retargeted, target_node, target_of, ticket_at, ticket_in, user_currency_count, weighed_of, with_amount, with_new_ticket, with_target, without_ticket, would_cycle}
@@ -28,7 +28,7 @@ pub use Rattle.lot_machine.specs.Kill.{ended, heir, is_owned_by, killed, mutex_w
 pub use Rattle.lot_machine.specs.Lends.{IsBacked, IsLendChain, IsLive, LendsLead, LendsOnTo, LendsTo, borrower, borrower_of, is_backed, is_backed_within, is_live, lends_lead, lends_lead_within, lends_on_to}
 pub use Rattle.lot_machine.specs.Lottery.{IsFirstAbove, first_above, running_sums, weight, winner}
 pub use Rattle.lot_machine.specs.Mutexes.{lock, mutex_at, unlock}
-pub use Rattle.lot_machine.specs.Named.{killed_by, processor_of, thread_in}
+pub use Rattle.lot_machine.specs.Named.{processor_of, thread_in}
 pub use Rattle.lot_machine.specs.Numbered.{at_number, numbers, option_any, set_number}
 pub use Rattle.lot_machine.specs.Order.{HasFreeGaps, HasOneSidedPorts, HasQueues, IsGap, IsInOrder, IsOneSided, IsQueue}
 pub use Rattle.lot_machine.specs.Places.{is_none_free, next_place, placed}
@@ -41,8 +41,8 @@ pub use Rattle.lot_machine.specs.Traps.{after_trap, compensation_for, with_ticks
 pub use Rattle.lot_machine.specs.Value.{currency_value, lenders_to, mutex_value, node_value, own_value, thread_value, ticket_value, ticket_value_within, waiters_for}
 pub use Rattle.lot_machine.specs.Worked.{after, settkt, unfund}
 pub use Rattle.lot_machine.specs.WorkedRuns.{upstream}
-pub use Rattle.lot_machine.specs.declared.action.Action.{Action}
-pub use Rattle.lot_machine.specs.declared.action.Action.TheVariants.{Call, Exit, Lock, Receive, Serve, Sleep, Unlock, Yield}
+pub use Rattle.lot_machine.specs.Actions.{Action}
+pub use Rattle.lot_machine.specs.declared.trap.Trap.TheVariants.{Call, Exit, Lock, Receive, Serve, Sleep, Unlock, Yield}
 pub use Rattle.lot_machine.specs.declared.after.After.{After}
 pub use Rattle.lot_machine.specs.declared.after.After.TheVariants.{Ends, GoesOn, Leaves}
 pub use Rattle.lot_machine.specs.declared.command.Command.{Command}

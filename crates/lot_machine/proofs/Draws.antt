@@ -1,4 +1,4 @@
--- The winner's place is the first whose running sum is greater than the number.
+-- The winner's index is the first whose running sum is greater than the number.
 use Rattle.lot_machine.proofs.Common.{Bool, Drawn, IsFirstAbove, List, MatchOption, None, Some, arith, cases_lt, eqb-false, eqb-true, false, first_above, if◌then◌else◌, inl, inr, ltb-false, ltb-true, mod-lt, nat_lt, refl, running_sums, suc, sum, sum_by-cons, take, true, winner, zero, ℕ, [], ◌%◌, ◌+◌, ◌<◌, ◌==◌, ◌∷◌, ◌≡◌, ◌≤◌, ◌⊎◌}
 
 -- the place is the first at which what stands before and the sum up to there are greater than n

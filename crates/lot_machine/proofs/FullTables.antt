@@ -1,4 +1,4 @@
--- If numbers are given again, a table is full only if as many exist as its limit allows.
+-- With `reuse` a table is full only if as many exist as its limit allows.
 use Rattle.lot_machine.proofs.Common.{Bool, HasEachOnce, IsGap, IsInOrder, List, Option, State, ap, are_currencies_full, are_threads_full, are_tickets_full, arith, cond, count_by, given_again, is_none_free, is_some, leb-true, length, ltb-true, nat_le, nat_lt, sym, true, ℕ, [], ◌&&◌, ◌<◌, ◌∙◌, ◌≡◌, ◌≤◌}
 use Rattle.lot_machine.proofs.Places.{full-count}
 

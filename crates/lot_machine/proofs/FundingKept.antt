@@ -1,4 +1,4 @@
--- Changes of tickets and currencies after which nothing makes a cycle, and tickets fund only what is there.
+-- Changes of tickets and currencies after which nothing makes a cycle, and tickets fund only existing targets.
 use Rattle.lot_machine.proofs.Common.{Bool, ChainLeads, Currency, Funding, FundsThere, HasNoCycle, IsChain, List, None, Option, Some, Target, Ticket, WouldCycle, all_tickets, ap, arith, at_number, backing_currency, currency_funded, eq-eqb, false, filter, inl, inr, is_currency, issuer_of, length, list_any, option_flatten, option_map, placed, refl, retargeted, set_number, slice_get, slice_get_within, slice_set, subst, suc, sym, target_of, ticket_at, ticket_in, true, with_new_ticket, with_target, without_ticket, would_cycle, ℕ, [], ◌++◌, ◌-◌, ◌∙◌, ◌∷◌, ◌≡◌, ◌⊎◌}
 use Rattle.lot_machine.proofs.Paths.{IsPath, Leads, LeadsOn, HasNoReturn, fewer-steps, one-step-more}
 use Rattle.lot_machine.proofs.Changes.{place-set_other, number-set}

@@ -1,4 +1,4 @@
--- Who runs, who is Ready, and who has used nothing on a processor.
+-- The threads that run, those that are Ready, and those that have used nothing on a processor.
 use Rattle.lot_machine.proofs.Common.{Bool, HasQueues, IsQueue, List, Mutex, None, Option, Port, QueuedCall, Record, RunsApart, Some, State, Status, ap, arith, at_number, change_record, false, filter, first_client, get_or, get_or_from_slice_get, get_or_past, inl, inr, is_asleep, is_dead, is_none, is_ready, is_some, length, map, mutex_at, ne_eqb, numbers, option_and_then, option_any, option_map, placed, port_at, ready_threads, refl, slice_get, slice_get_cases, slice_index, slice_set, status_of, subst, suc, sym, then_some, thread_on, thread_there, true, unwrap_or, used_by, used_on, zero, ℕ, [], ◌++◌, ◌-◌, ◌<◌, ◌==◌, ◌∙◌, ◌∷◌, ◌≡◌, ◌≤◌, ◌⊎◌}
 use Rattle.lot_machine.specs.declared.record.Status.TheVariants as status
 use Rattle.lot_machine.proofs.Changes.{place-set, number-push}

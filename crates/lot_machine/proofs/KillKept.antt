@@ -1,4 +1,4 @@
--- After a kill nothing makes a cycle, and those who wait stand where their statuses say.
+-- After a kill nothing makes a cycle, and waiting threads are in the queues that their statuses name.
 use Rattle.lot_machine.proofs.Common.{Bool, HasNoCycle, HasQueues, IsQueue, Lend, LendsTo, List, Mutex, Nobody, None, Option, Port, QueuedCall, Record, Some, State, Status, ToMutex, ToThread, ap, arith, at_number, borrower, cases_eq, change_each, clients_of, cond, ended, false, funding_of, inl, inr, is_owned_by, killed, lend_of, map, mutex_without, not, option_and_then, option_flatten, option_map, owner_of, passed_on, port_without, refl, released, released_by, set_number, slice_get, status_of, subst, suc, sym, true, unwrap_or, without, zero, ℕ, [], ◌-◌, ◌==◌, ◌∙◌, ◌∷◌, ◌≡◌, ◌⊎◌}
 use Rattle.lot_machine.specs.declared.record.Status.TheVariants as status
 use Rattle.lot_machine.proofs.Paths.{IsEnd, steps-to-ends}

@@ -1,4 +1,4 @@
--- Whom a kill releases, who is left in a list, and what statuses are afterwards.
+-- The threads that a kill releases, those left in a list, and the statuses afterwards.
 use Rattle.lot_machine.proofs.Common.{Bool, HasQueues, IsQueue, List, Mutex, None, Option, QueuedCall, Record, Some, State, Status, ap, at_number, change_each, change_record, clients_of, cond, cons_option, ended, eqb-false, eqb-true, false, filter, filter_map, heir, inl, inr, is_owned_by, killed, map, mutex_without, not, passed_on, refl, released, released_by, set_number, slice_get, status_of, subst, suc, sym, true, without, zero, ℕ, [], ◌++◌, ◌-◌, ◌==◌, ◌∙◌, ◌∷◌, ◌≡◌, ◌⊎◌}
 use Rattle.lot_machine.specs.declared.record.Status.TheVariants as status
 use Rattle.lot_machine.proofs.Changes.{number-set, number-there}

@@ -1,4 +1,4 @@
--- Changes of what threads lend and of who owns a mutex after which nothing makes a cycle.
+-- Changes of threads' lends and of mutexes' owners after which nothing makes a cycle.
 use Rattle.lot_machine.proofs.Common.{Funding, HasNoCycle, IsLendChain, Lend, LendsLead, LendsOnTo, LendsTo, List, Nobody, None, Option, Some, ToMutex, ToThread, ap, at_number, borrower, false, inl, inr, lends_lead, option_and_then, option_any, option_flatten, owner_of, placed, refl, set_number, suc, sym, true, ℕ, [], ◌++◌, ◌-◌, ◌∙◌, ◌∷◌, ◌≡◌, ◌⊎◌}
 use Rattle.lot_machine.proofs.Paths.{IsPath, HasNoReturn, fewer-steps, one-step-more, steps-to-end}
 use Rattle.lot_machine.proofs.Changes.{number-set, number-there}

@@ -1,4 +1,4 @@
--- No two currencies or threads have the same name, each name is one that the kernel takes, and it means who has it.
+-- No two currencies or threads have the same name, the kernel takes each name, and it means exactly its owner.
 use Rattle.lot_machine.proofs.Common.{BadAmount, BadName, Bool, Command, Currency, DropCurrency, DropThread, Event, Full, List, MakeCurrency, MakeFunded, MakeThread, NameTaken, NewCurrency, NewThread, NoCurrency, NoScript, None, Option, RemoveCurrency, RemoveThread, Sizes, Some, State, Target, Unfunded, ap, are_currencies_full, are_threads_full, are_tickets_full, arith, at_number, bytes_eq, bytes_eq-Decides, command_effect, command_refusal, currency_meant, currency_named, currency_or_base, false, free_currencies, free_threads, get_or, inl, inr, is_bad_amount, is_meant_by, is_name, is_no_name, is_no_script, is_none, is_taken, is_thread_name, length, ltb-false, nat_lt, next_place, not, opening, option_any, option_flatten, option_map, option_or, placed, position, position-Some, position_or_len, refl, set_number, slice_get, slice_get-get_or, slice_set, state_after, step, subst, suc, sym, target_named, thread_at, thread_meant, thread_named, true, unwrap_or, zero, ℕ, [], ◌&&◌, ◌+◌, ◌-◌, ◌<◌, ◌||◌, ◌∙◌, ◌∷◌, ◌≡◌, ◌⊎◌}
 use Rattle.lot_machine.specs.declared.event.Event.TheVariants as event
 use Rattle.lot_machine.specs.declared.record.Thread.{Thread as ThreadRecord}

@@ -1,6 +1,6 @@
 -- No call is queued at a port while a thread waits to receive there.
 use Rattle.lot_machine.proofs.Common.{Action, Call, Command, Drawn, Event, Exit, HasOneSidedPorts, IsOneSided, Kill, List, Lock, None, Option, Port, PutPort, QueuedCall, Receive, Serve, Sizes, Sleep, Some, State, TrapRefusal, Unlock, Yield, ap, at_number, call, checked_effect, command_effect, command_step, draw, event_effect, filter, inl, inr, map, not, opening, option_map, port_at, port_without, ready_threads, receive, refl, reply, set_number, state_after, step, subst, suc, sym, thread_meant, thread_there, trap_effect, trap_refusal, unwrap_or, weight_of, winner, without, ℕ, [], ◌-◌, ◌==◌, ◌∙◌, ◌∷◌, ◌≡◌, ◌⊎◌}
-use Rattle.lot_machine.specs.declared.action.Action.TheVariants.{Reply as ReplyTo}
+use Rattle.lot_machine.specs.declared.trap.Trap.TheVariants.{Reply as ReplyTo}
 use Rattle.lot_machine.specs.declared.event.Event.TheVariants as event
 use Rattle.lot_machine.proofs.Changes.{number-set}
 use Rattle.lot_machine.proofs.CommandsKept.{unrefused}
@@ -68,16 +68,11 @@ module _ (s : State) (each : Each s.ports) where
       at (first ∷ others) is one = rw is (set-port s.ports port (record { calls = others; receivers = (port_at s.ports port).receivers }) (still first others is one) each)
 
 one-after : (s : State) (t : ℕ) (action : Action) → Each s.ports → Each (trap_effect s t action).state.ports
-one-after s t Yield each = each
 one-after s t (Call port number) each = called s each t port number
 one-after s t (Receive port) each = received s each t port
-one-after s t (ReplyTo number) each = each
 one-after s t (Serve port number) each =
     let replied = reply s.records s.clients s.ports t number in received (record s { records = replied.records; clients = replied.clients; ports = replied.ports }) each t port
-one-after s t (Lock m) each = each
-one-after s t (Unlock m d) each = each
-one-after s t Sleep each = each
-one-after s t Exit each = each
+one-after s t action each = each
 
 checked-one : (s : State) (t : ℕ) (action : Action) (o : Option TrapRefusal) → Each s.ports → Each (checked_effect s o (trap_effect s t action)).state.ports
 checked-one s t action None each = one-after s t action each

@@ -1,9 +1,9 @@
--- A state that is in order stays so through each event, and is sound.
+-- A state in order stays so through each event, and is sound.
 use Rattle.lot_machine.proofs.Common.{Action, After, All-nil, AlreadyOwner, BadProcessor, BadTicks, Bool, Busy, Call, Command, DeadThread, Drawn, Effect, Ends, Event, Exit, FundsThere, GoesOn, HasEachOnce, HasNoCycle, HasQueues, IsGap, IsInOrder, IsQueue, IsSound, IsWithinBounds, Kill, Leaves, Lend, LendsTo, List, Lock, LockCycle, Mutex, NoMutex, NoPort, NoThread, Nobody, None, NotAsleep, NotOwner, NotRunning, NothingToReply, Option, Port, QueuedCall, Receive, Record, Serve, Sizes, Sleep, Some, State, Status, Target, ThreadRef, Ticket, TrapRefusal, Unlock, Yield, after_trap, ap, arith, at_number, before_lock, borrower, call, change_record, checked_effect, clients_of, command_effect, command_step, compensation_for, draw, event_effect, false, first_client, funding_of, get_or, get_or_from_slice_get, get_or_past, holders, inl, inr, is_asleep, is_bad_processor, is_dead_in, is_meant_by, is_no_mutex, is_none, is_ready, is_some, issuer_of, killed, left_by, lend_of, lends_on_to, length, map, mutex_at, nat_le, nat_lt, not, numbers, opening, option_and_then, option_any, option_flatten, option_map, or_parts, owns, port_holders, position, position-Some, ready_threads, receive, refl, replicate, reply, serve, slice_get, slice_get_cases, slice_get_within, slice_index, started, state_after, status_of, step, stopped, subst, suc, sym, target_of, thread_at, thread_meant, thread_on, thread_there, trap, trap_effect, trap_refusal, true, unwrap_or, used_there, value_of, wake, weight_of, winner, with_ticks, without_servers, zero, ℕ, [], ◌+◌, ◌-◌, ◌<◌, ◌==◌, ◌^◌, ◌∙◌, ◌∷◌, ◌≡◌, ◌≤◌, ◌⊎◌}
 use Rattle.lot_machine.specs.declared.ticket.Target.TheVariants as target
 use Rattle.lot_machine.specs.declared.record.Thread.{Thread}
 use Rattle.lot_machine.specs.declared.record.Status.TheVariants as status
-use Rattle.lot_machine.specs.declared.action.Action.TheVariants.{Reply as ReplyTo}
+use Rattle.lot_machine.specs.declared.trap.Trap.TheVariants.{Reply as ReplyTo}
 use Rattle.lot_machine.specs.declared.reference.ThreadRef.TheVariants as thread_ref
 use Rattle.lot_machine.specs.declared.event.Event.TheVariants as event
 use Rattle.lot_machine.proofs.Tickets.{at_number-suc, some-injective}
@@ -179,7 +179,7 @@ module _ (s : State) (order : IsInOrder s) (t p before ticks used : ℕ) (runs :
 
   effect-untangled : (action : Action) → trap_refusal s t action ≡ None → IsUntangled (finished (trap_effect s t action))
   effect-untangled Yield allowed = nothing-else (Leaves status.Ready) (λ r. refl)
-  effect-untangled Sleep allowed = nothing-else (Leaves status.Asleep) (λ r. refl)
+  effect-untangled (Sleep n) allowed = nothing-else (Leaves status.Asleep) (λ r. refl)
   effect-untangled Exit allowed =
       let gone : State = record s { mutexes = left_by s t } in (
         cycle-nobody gone (finish Ends) t (λ r. refl) (cycle-unserved_each (λ server. server == t) s (port_holders s.limits) order.no_cycle),

@@ -1,4 +1,4 @@
--- Steps of a relation between numbers, one after another: which changes of the relation leave it without a way back.
+-- Steps of a relation between numbers, one after another, and the changes of the relation that make no path back.
 use Rattle.std.proofs.Common.{◌≡◌, ℕ, ◌⊎◌, inl, inr, List, [], ◌∷◌, ◌++◌, sym, subst}
 
 -- from t each steps to the next of these, and the last of all is u

@@ -1,4 +1,4 @@
--- What stands at a place after one more element is put into a free place, or added at the end; and which places are gaps then.
+-- Elements by index after one more element in a free place, or at the end, and the gaps afterwards.
 use Rattle.lot_machine.proofs.Common.{Bool, Contains, HasEachOnce, IsGap, List, None, Option, Some, ap, arith, at_number, cond, count_by, drop, inl, inr, is_none_free, is_some, length, length-append, length-set, map, map-append, map-set, next_place, placed, refl, slice_get, slice_set, suc, sum_by-cons, sym, true, zero, ℕ, [], ◌&&◌, ◌++◌, ◌+◌, ◌-◌, ◌∙◌, ◌∷◌, ◌≡◌, ◌≤◌, ◌⊎◌}
 use Rattle.lot_machine.proofs.Tickets.{at_number-suc, some-injective}
 use Rattle.lot_machine.proofs.Changes.{place-set, place-set_other, place-set_same, place-push}

@@ -1,4 +1,4 @@
--- Queues of threads that all have one status: what changes of records, ports, mutexes and clients leave of them.
+-- Queues of threads with one status, after changes of records, ports, mutexes and clients.
 use Rattle.lot_machine.proofs.Common.{Dead, HasQueues, IsQueue, List, Mutex, None, Option, Port, Queued, QueuedCall, Receiving, Record, Served, Some, Status, Waiting, ap, arith, at_number, change_record, clients_of, false, inl, inr, is_live_status, length, map, option_map, placed, pred, refl, remove, set_number, slice_get, slice_set, status_of, subst, suc, sym, true, unwrap_or, zero, ℕ, [], ◌++◌, ◌-◌, ◌∙◌, ◌∷◌, ◌≡◌, ◌⊎◌}
 use Rattle.lot_machine.proofs.Changes.{number-set, number-there, place-set_same}
 use Rattle.lot_machine.proofs.Places.{number-placed, number-stays}

@@ -1,4 +1,5 @@
--- What holds as ports get or lose their servers: who waits stands where its status says, and a lock makes no cycle through a port.
+-- Ports that get or lose their servers: waiting threads stay in the queues that their statuses name, and a lock makes
+-- no cycle through a port.
 use Rattle.lot_machine.proofs.Common.{Bool, HasNoCycle, HasQueues, IsLendChain, IsQueue, Lend, LendsLead, LendsTo, List, Mutex, Nobody, None, Option, Outcome, Port, Record, Some, State, ToMutex, ToThread, Waiting, ap, at_number, before_lock, borrower, borrower_of, cases_eq, cond, false, funding_of, held_by, holder_of, inl, inr, is_none, leads_back, lends_lead, lends_on_to, map, mutex_at, option_and_then, option_any, option_flatten, option_map, owner_of, port_holders, refl, served_at, set_number, slice_get, subst, suc, sym, true, unserved, unserved_at, unwrap_or, with_server, without_servers, ℕ, [], ◌-◌, ◌∙◌, ◌∷◌, ◌≡◌, ◌⊎◌}
 use Rattle.lot_machine.specs.declared.reply.Outcome.TheVariants as outcome
 use Rattle.lot_machine.proofs.Changes.{number-set, number-there}

@@ -1,7 +1,7 @@
--- Who serves nobody: a thread that is not in use; and a dead thread's clients stay as they are.
+-- A thread that is not in use serves nobody, and a dead thread's clients stay unchanged.
 use Rattle.lot_machine.proofs.Common.{Action, Bool, Call, Exit, HasQueues, List, Lock, None, Option, QueuedCall, Receive, Record, Serve, Sleep, Some, State, Status, Thread, TrapRefusal, Unlock, Yield, ap, at_number, call, checked_effect, clients_of, drop, edge_count_into, false, first_client, funding_of, inl, inr, is_some, is_thread_in_use, nat_lt, of_ports, port_at, receive, refl, reply, set_number, slice_get, status_of, subst, suc, sym, trap_effect, true, unwrap_or, ℕ, [], ◌++◌, ◌-◌, ◌||◌, ◌∙◌, ◌∷◌, ◌≡◌, ◌⊎◌}
 use Rattle.lot_machine.specs.declared.record.Status.TheVariants as status
-use Rattle.lot_machine.specs.declared.action.Action.TheVariants.{Reply as ReplyTo}
+use Rattle.lot_machine.specs.declared.trap.Trap.TheVariants.{Reply as ReplyTo}
 use Rattle.lot_machine.proofs.Tickets.{some-injective}
 use Rattle.lot_machine.proofs.Changes.{number-set}
 use Rattle.lot_machine.proofs.Idle.{status-number, receiver-stands}
@@ -60,15 +60,11 @@ module _ (s : State) (queues : HasQueues s.records s.clients s.ports s.mutexes) 
   reply-clients number = own-clients s.clients (drop 1 (clients_of s.clients t))
 
   effect-clients : (action : Action) → clients_of (trap_effect s t action).state.clients u ≡ clients_of s.clients u
-  effect-clients Yield = refl
   effect-clients (Call port number) = call-clients port number
   effect-clients (Receive port) = receive-clients s port
   effect-clients (ReplyTo number) = reply-clients number
   effect-clients (Serve port number) = receive-clients (of_ports s (reply s.records s.clients s.ports t number)).state port ∙ reply-clients number
-  effect-clients (Lock m) = refl
-  effect-clients (Unlock m d) = refl
-  effect-clients Sleep = refl
-  effect-clients Exit = refl
+  effect-clients action = refl
 
   pub checked-clients : (action : Action) (o : Option TrapRefusal) → clients_of (checked_effect s o (trap_effect s t action)).state.clients u ≡ clients_of s.clients u
   checked-clients action None = effect-clients action

@@ -1,8 +1,9 @@
--- Each event is a list of changes, each of which is allowed where it is made. So what each allowed change keeps, each event keeps.
+-- Each event is a list of changes, each of which is allowed at its place. So each event preserves what each allowed
+-- change preserves.
 use Rattle.lot_machine.proofs.Common.{Action, After, Alive, All, All-head, All-push, All-set, All-tail, BadAmount, BadName, BadProcessor, BadTicks, BaseFixed, Bool, Busy, Call, Change, Command, CurrencyRef, Cycle, DeadThread, Drawn, DropCurrency, DropThread, DropTicket, Effect, Ends, Event, Exit, Full, Fund, FundsThere, GoesOn, HasEachOnce, HasFreeGaps, HasNoCycle, HasQueues, IfSome, InUse, IsGap, IsWithinBounds, Kill, Leaves, List, Lock, MakeCurrency, MakeFunded, MakeThread, MakeTicket, Mutex, NameTaken, NewCurrency, NewThread, NewTicket, NoCurrency, NoScript, NoTarget, NoThread, NoTicket, None, NotAsleep, NotFunding, NotRunning, Option, Outcome, Port, PortTrap, PutClients, PutMutex, PutPort, PutRecord, PutTicket, QueuedCall, Receive, Record, RemoveCurrency, RemoveThread, RemoveTicket, RunsApart, Serve, SetTicket, Sleep, Some, State, Status, Target, ThreadRef, Ticket, TrapRefusal, Unfund, Unlock, Yield, after_trap, ap, applied, applied_all, are_threads_full, are_tickets_full, arith, at_number, at_port, backing_currency, before_lock, call, cases_eq, change_each, change_record, checked_effect, clients_of, command_effect, command_step, compensation_for, cond, currency_funded, currency_meant, currency_or_base, draw, drop, ended, event_effect, false, first_client, free_currencies, free_threads, free_tickets, funding_of, given_again, held_by, holder_of, inl, inr, is_asleep, is_bad_amount, is_bad_processor, is_currency, is_cycle, is_dead, is_dead_in, is_dead_thread, is_funding, is_in_use, is_no_script, is_none, is_none_free, is_some, is_taken, is_thread_in_use, is_thread_name, issued_in, killed, leads_back, leb-false, lend_of, lends_lead, lends_on_to, length, length-append, length-set, lock, ltb-false, map, map-set, mutex_at, mutex_without, nat_le, nat_lt, newborn, next_thread, not, of_mutexes, of_ports, option_and_then, option_any, option_flatten, option_map, or_parts, placed, port_at, port_holders, port_without, ready_threads, receive, refl, reissued, released, released_by, remove, reply, retargeted, serve, served_at, set_number, slice_get, slice_get-map, slice_index, slice_set, started, status_of, step, stopped, subst, suc, sym, target_meant, thread_at, thread_meant, thread_on, thread_there, ticket_in, trap_effect, trap_refusal, true, unlock, unserved, unserved_at, unwrap_or, used_by, used_on, used_there, value_of, wake, weight_of, winner, with_server, with_target, with_ticks, without, zero, ℕ, [], ◌&&◌, ◌++◌, ◌+◌, ◌-◌, ◌<◌, ◌==◌, ◌^◌, ◌||◌, ◌∙◌, ◌∷◌, ◌≡◌, ◌≤◌, ◌⊎◌}
 use Rattle.lot_machine.specs.declared.ticket.Target.TheVariants as target
 use Rattle.lot_machine.specs.declared.record.Status.TheVariants as status
-use Rattle.lot_machine.specs.declared.action.Action.TheVariants.{Reply as ReplyTo}
+use Rattle.lot_machine.specs.declared.trap.Trap.TheVariants.{Reply as ReplyTo}
 use Rattle.lot_machine.specs.declared.command.Command.TheVariants.{List as Listing}
 use Rattle.lot_machine.specs.declared.event.Event.TheVariants as event
 use Rattle.lot_machine.specs.declared.refusal.Refusal.TheVariants.{Funding as IsFunding}
@@ -734,7 +735,7 @@ effect-leads s t (Serve port number) =
     kept (λ a. used_by a.records p first.caller ≡ used_by s.records p first.caller) (change-used Work s p first.caller queues (λ e. cc) (λ e. cc) (λ e. cc)) replied refl ∙ caller-used s.records s.clients s.ports s.mutexes queues p port first others is))
 effect-leads s t (Lock m) = lock-leads (record s { mutexes = before_lock s t m }) t m (before-lock-leads s t m)
 effect-leads s t (Unlock m d) = unlock-leads s (value_of s) m d
-effect-leads s t Sleep = (Stays, λ p used e. cc)
+effect-leads s t (Sleep n) = (Stays, λ p used e. cc)
 effect-leads s t Exit = (unserved-leads (λ server. server == t) s (port_holders s.limits) (λ same. cc) Stays, tt)
 
 pub checked-leads : (s : State) (t : ℕ) (action : Action) (o : Option TrapRefusal) → Works s (checked_effect s o (trap_effect s t action))

@@ -1,4 +1,4 @@
--- How many threads a state has after an event, who they are, and its limits.
+-- The number of a state's threads after an event, their names and scripts, and its limits.
 use Rattle.lot_machine.proofs.Common.{Action, Command, Event, List, None, Option, Record, Some, State, TrapRefusal, arith, at_number, change_each, change_record, checked_effect, command_step, ended, killed, length, length-set, processor_of, refl, released, released_by, step, trap_effect, ℕ, [], ◌-◌, ◌∙◌, ◌∷◌, ◌≡◌}
 use Rattle.lot_machine.specs.declared.event.Event.TheVariants as event
 use Rattle.lot_machine.proofs.StepChanges.{HasSizesOf, HasGrownFrom, Console, Work, kept, change-grown, change-sizes, change-tickets, checked-leads, by_event, step-leads}

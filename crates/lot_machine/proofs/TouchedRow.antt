@@ -1,4 +1,5 @@
--- What a ticket of base that loses its target, or gets another amount, touches two currencies upstream of a thread.
+-- The nodes touched by a ticket of base that loses its target, or gets another amount, two currencies upstream of a
+-- thread.
 use Rattle.lot_machine.proofs.Common.{Bool, Edge, Funding, IsChangedEdge, IsChangedNode, IsEdgeOfEither, IsPath, IsTouched, List, Nobody, Node, None, OfLender, OfMutex, OfTicket, Option, Some, Target, Thread, Touches, after, ap, arith, at_number, ends_of, inl, inr, option_map, refl, settkt, subst, suc, sym, target_node, true, unfund, upstream, weighed_of, zero, ℕ, [], ⊤, ◌++◌, ◌↔◌, ◌∙◌, ◌∷◌, ◌≡◌, ◌≢◌, ◌⊎◌}
 use Rattle.lot_machine.specs.declared.ticket.Target.TheVariants as target
 use Rattle.lot_machine.specs.declared.funding.Node.TheVariants.{Currency}

@@ -1,4 +1,4 @@
--- Those who wait still stand where their statuses say after a trap.
+-- After a trap waiting threads are in the queues that their statuses name.
 use Rattle.lot_machine.proofs.Common.{After, Drawn, GoesOn, HasQueues, IsQueue, Leaves, List, Mutex, None, Option, Port, Queued, QueuedCall, Ready, Receiving, Record, Running, Served, Some, Status, Waiting, ap, at_number, call, change_record, clients_of, eq-eqb, false, first_client, get_or, get_or_from_slice_get, get_or_past, inl, inr, is_none, length, lock, map, map-append, mutex_at, option_any, option_map, port_at, receive, refl, remove, reply, set_number, slice_get, slice_get_cases, slice_index, status_of, subst, suc, sym, true, unlock, unwrap_or, winner, ℕ, [], ◌++◌, ◌-◌, ◌<◌, ◌==◌, ◌∙◌, ◌∷◌, ◌≡◌, ◌≤◌, ◌⊎◌}
 use Rattle.lot_machine.proofs.Changes.{number-there}
 use Rattle.lot_machine.proofs.Tickets.{some-injective}

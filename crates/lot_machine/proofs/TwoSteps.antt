@@ -1,5 +1,5 @@
--- What a change in two steps touches, if the graph between them has no edge with its weight and no live thread that neither end
--- has, and lacks none that both have.
+-- The nodes touched by a change in two steps, if the graph between them has no edge with its weight and no live thread
+-- that neither end has, and lacks none that both have.
 use Rattle.lot_machine.proofs.Common.{Bool, Edge, Funding, IsChangedEdge, IsChangedLife, IsChangedNode, IsEdgeOfEither, IsLive, IsPath, IsTouched, List, LiveBetween, Node, PathLeads, Some, WeighedBetween, at_number, ends_of, inl, inr, sym, weighed_of, ℕ, [], ◌∙◌, ◌∷◌, ◌≡◌, ◌⊎◌}
 use Rattle.lot_machine.proofs.Weighed.{there-weighed, weighed-there}
 

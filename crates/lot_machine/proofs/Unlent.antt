@@ -1,4 +1,4 @@
--- Where nobody lends, a thread that isn't live is worth nothing.
+-- Without lends, a thread that isn't live is worth 0.
 use Rattle.lot_machine.proofs.Common.{Asleep, Bool, Dead, Funding, List, Nobody, None, Option, Queued, Ready, Receiving, Record, Running, Served, Sizes, Some, Status, Target, Ticket, Waiting, activates_within, ap, at_number, backing_thread, borrower, borrower_of, cond, eqb-true, false, is_active, is_backed, is_backed_within, is_live, is_thread, lend_of, lends_lead, lends_lead_within, length, map, numbers, option_and_then, option_any, option_map, own_value, refl, suc, sym, thread_value, ticket_value, ticket_value_within, true, user_currency_count, zero, ℕ, ◌==◌, ◌||◌, ◌∙◌, ◌≡◌}
 use Rattle.lot_machine.specs.declared.ticket.Target.TheVariants as target
 use Rattle.lot_machine.proofs.Sums.{sum-filter, sum-same, sum-nothing}

@@ -1,4 +1,4 @@
--- Without lending of queued calls no holder but the mutexes is there, and none changes.
+-- Without `queued_lend` the mutexes are the only holders, and none changes.
 use Rattle.lot_machine.proofs.Common.{Bool, Event, List, Mutex, Nobody, None, Option, Outcome, PutMutex, Queued, Sizes, Some, State, ToMutex, ap, arith, at_number, before_lock, cond, false, funding_of, held_by, holder_of, holders, is_no_mutex, is_none, le-ltb, leads_back, left_by, lend_of, lends_lead, lends_on_to, length, length-replicate, length-set, map, mutex_at, nat_le, nat_lt, opening, option_any, port_holders, refl, served_at, set_number, slice_get, slice_get_within, state_after, step, suc, sym, true, unserved, with_server, without_servers, ℕ, [], ◌&&◌, ◌+◌, ◌-◌, ◌<◌, ◌==◌, ◌||◌, ◌∙◌, ◌∷◌, ◌≡◌, ◌≤◌}
 use Rattle.lot_machine.specs.declared.reply.Outcome.TheVariants as outcome
 use Rattle.lot_machine.proofs.Changes.{number-there}

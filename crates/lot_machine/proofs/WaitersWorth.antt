@@ -1,4 +1,4 @@
--- What the waiters for one mutex are worth together: at most what base's active tickets are.
+-- The waiters for one mutex together are worth at most as much as base's active tickets.
 use Rattle.lot_machine.proofs.Common.{Bool, Funding, FundsThere, HasNoCycle, IsLendChain, IsQueue, LendsOnTo, List, Record, Some, State, Waiting, active_amount, ap, arith, borrower, borrower_of, cond, false, funding_of, lend_of, lends_lead, length, length-map, live_of, numbers, option_and_then, own_value, range_with_len, refl, slice_get, subst, suc, sum_by, sum_by-cons, sym, true, value_of, ℕ, [], ◌*◌, ◌+◌, ◌∙◌, ◌∷◌, ◌≡◌, ◌≤◌}
 use Rattle.lot_machine.proofs.Sums.{sum-filter, sum-le, sum-same, sum-swap}
 use Rattle.lot_machine.proofs.Tickets.{some-injective}

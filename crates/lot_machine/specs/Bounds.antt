@@ -6,7 +6,7 @@ use Rattle.lot_machine.specs.declared.sizes.Sizes.{Sizes}
 abbrev pub IsBetween : ℕ → ℕ → ℕ → Type 0
 IsBetween first last n = (first ≤ n) × (n ≤ last)
 
--- the unit is 1, or 256 for finer shares: the value of one of base
+-- the unit, 1 or 256: an active base ticket is worth its amount times the unit
 abbrev pub IsUnit : ℕ → Type 0
 IsUnit unit = IsTrue ((unit == 1) || (unit == 256))
 

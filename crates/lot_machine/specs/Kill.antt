@@ -1,4 +1,4 @@
--- How a killed thread leaves: the port, the mutex or the server where it waits, its clients, and its mutexes (4.6, 6.1).
+-- A killed thread's exit from its port, mutex or server, from its clients, and from its mutexes (4.6, 6.1).
 use Rattle.std.specs.Prelude.{ℕ, ◌==◌, Bool, not, Option, Some, None, List, [], ◌∷◌, ◌++◌, map, filter, filter_map, if◌then◌else◌}
 use Rattle.lot_machine.specs.declared.record.Record.{Record}
 use Rattle.lot_machine.specs.declared.record.Status.TheVariants.{Ready, Dead}
@@ -28,7 +28,7 @@ abbrev pub mutex_without : ℕ → Mutex → Mutex
 mutex_without t mutex =
     if is_owned_by t mutex then passed_on (without t mutex.waiters) else record { owner = mutex.owner; waiters = without t mutex.waiters }
 
--- the thread that gets the mutex, if this one owned it and another waits
+-- the next owner of the mutex, if this thread owns it and another waits
 abbrev pub heir : ℕ → Mutex → Option ℕ
 heir t mutex = if is_owned_by t mutex then (mutex_without t mutex).owner else None
 
@@ -44,8 +44,8 @@ released r = record r { status = Ready }
 abbrev pub ended : Record → Record
 ended r = record r { status = Dead; compensation = None }
 
--- The state after the thread is killed. A thread that runs leaves its processor, which is idle then; what it ran
--- since its last trap isn't charged.
+-- The state after the thread is killed. A running thread leaves its processor idle, and is charged no tick since its
+-- last trap.
 abbrev pub killed : State → ℕ → State
 killed s t = record s {
   records = change_record ended (change_each released s.records (released_by s t)) t;

@@ -1,12 +1,9 @@
--- The processor of an event, the thread that it kills, and the thread that its reply names or makes.
+-- The processor of an event, and the thread that its reply names or makes.
 use Rattle.std.specs.Prelude.{ℕ, Option, Some, None}
 use Rattle.lot_machine.specs.declared.event.Event.{Event}
 use Rattle.lot_machine.specs.declared.event.Event.TheVariants as event
-use Rattle.lot_machine.specs.declared.command.Command.TheVariants.{Kill}
 use Rattle.lot_machine.specs.declared.reply.Reply.{Reply}
 use Rattle.lot_machine.specs.declared.reply.Reply.TheVariants as reply
-use Rattle.lot_machine.specs.State.{State}
-use Rattle.lot_machine.specs.Commands.{thread_meant}
 
 -- the event's processor; a command of the console and a wake have none
 abbrev pub processor_of : Event → Option ℕ
@@ -17,11 +14,6 @@ processor_of (event.Trap p ran action) = Some p
 processor_of (event.Preempt p ticks) = Some p
 processor_of (event.Overrun p ticks) = Some p
 processor_of (event.Wake t) = None
-
--- the thread that the event kills, if the command is `kill` and the thread exists
-abbrev pub killed_by : State → Event → Option ℕ
-killed_by s (event.Command (Kill thread)) = thread_meant s thread
-killed_by s other = None
 
 -- the thread that the reply names: it runs now, or it ran until its quantum ended or its trap was made
 abbrev pub thread_in : Reply → Option ℕ

@@ -33,7 +33,7 @@ IsOneSided port = (port.calls ≡ []) ⊎ (port.receivers ≡ [])
 abbrev pub HasOneSidedPorts : State → Type 0
 HasOneSidedPorts s = (p : ℕ) (port : Port) → at_number s.ports p ≡ Some port → IsOneSided port
 
--- the place was left by what was removed
+-- the place is a gap: its element was removed
 abbrev pub IsGap : {A : Type 0} → List (Option A) → ℕ → Type 0
 IsGap xs place = slice_get xs place ≡ Some None
 
@@ -44,7 +44,7 @@ pub record HasFreeGaps (s : State) : Type 0 where
   pub threads : HasEachOnce s.freed.threads (IsGap s.threads)
 
 -- In order: no cycle, tickets fund existing currencies, threads run apart, queues match statuses, removed threads are
--- dead and serve nobody, gaps are free if numbers are given again, tickets and sizes are in bounds.
+-- dead and serve nobody, with `reuse` the free places are the gaps, tickets and sizes are in bounds.
 pub record IsInOrder (s : State) : Type 0 where
   pub no_cycle : HasNoCycle (funding_of s)
   pub funds_there : FundsThere (funding_of s)

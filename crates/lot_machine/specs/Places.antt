@@ -1,4 +1,4 @@
--- The places of a table that keeps the gaps of what was removed.
+-- The places of a table that keeps the gaps of removed elements.
 use Rattle.std.specs.Prelude.{ℕ, Bool, true, false, List, [], ◌∷◌, ◌++◌, length, slice_set}
 
 -- whether no place is free

@@ -1,4 +1,8 @@
--- The server of a port, in a kernel whose queued calls lend: the thread that took the last call there (4.6).
+-- The server of a port, in a kernel whose queued calls lend: the thread that took the last call there (4.6). The
+-- holders of M mutexes and P ports:
+--
+--     holder   1 .. M               M + 1 .. M + P
+--     owner    owner of the mutex   server of the port
 use Rattle.std.specs.Prelude.{ℕ, ◌+◌, ◌==◌, Bool, true, Option, Some, None, List, [], ◌∷◌, map, if◌then◌else◌}
 use Rattle.std.specs.List.{range_with_len}
 use Rattle.lot_machine.specs.declared.sizes.Sizes.{Sizes}
@@ -10,7 +14,7 @@ use Rattle.lot_machine.specs.Lends.{lends_lead, lends_on_to}
 use Rattle.lot_machine.specs.State.{State, Mutex, funding_of, holder_of}
 use Rattle.lot_machine.specs.Mutexes.{mutex_at}
 
--- a holder with this owner; nobody waits for it by number, as for a mutex
+-- a holder with this owner; threads never wait for it by number, as they do for a mutex
 abbrev pub held_by : Option ℕ → Mutex
 held_by owner = record { owner = owner; waiters = [] }
 
@@ -22,8 +26,8 @@ with_server limits mutexes port server = if limits.queued_lend then set_number m
 abbrev pub leads_back : State → ℕ → ℕ → Bool
 leads_back s t port = option_any (λ server. lends_lead (funding_of s) server t) (owner_of (funding_of s) (holder_of s.limits port))
 
--- The holders after the thread's trap at the port, by its outcome: who took a call is the port's server. A queued call
--- takes the server away if it would lend to its own caller.
+-- The holders after the thread's trap at the port, by its outcome: the port's server is the thread that took the call.
+-- A port loses its server if a queued call would lend to its own caller.
 abbrev pub served_at : State → ℕ → ℕ → Outcome → List Mutex
 served_at s t port (ServedBy server) = with_server s.limits s.mutexes port (Some server)
 served_at s t port Queued = if leads_back s t port then with_server s.limits s.mutexes port None else s.mutexes
@@ -49,13 +53,13 @@ abbrev pub without_servers : State → Funding
 without_servers s = record (funding_of s) { owners = map (λ m. m.owner) (unserved (λ server. true) s.mutexes (port_holders s.limits)) }
 
 -- The mutexes and holders before the thread locks the mutex. If its wait would close a cycle of lends through a port's
--- server, the servers from which lends lead to the thread are taken away.
+-- server, each server from which lends lead to the thread is cleared.
 abbrev pub before_lock : State → ℕ → ℕ → List Mutex
 before_lock s t m =
     if option_any (λ owner. lends_on_to (funding_of s) owner t) (mutex_at s.mutexes m).owner
     then unserved (λ server. lends_lead (funding_of s) server t) s.mutexes (port_holders s.limits)
     else s.mutexes
 
--- the mutexes and holders after the thread ends: it serves no port
+-- the mutexes and holders after the thread ends, which takes it away as server of each port
 abbrev pub left_by : State → ℕ → List Mutex
 left_by s t = unserved (λ server. server == t) s.mutexes (port_holders s.limits)

@@ -32,16 +32,16 @@ pub record Mutex : Type 0 where
   pub owner : Option ℕ
   pub waiters : List ℕ
 
--- the free places of three tables, the one left last first
+-- the free places of three tables, the one freed last first
 pub record Freed : Type 0 where
   pub tickets : List ℕ
   pub currencies : List ℕ
   pub threads : List ℕ
 
--- Tickets, threads, ports and mutexes are numbered from 1; currencies are numbered from 0, which is base. Removal
--- leaves a gap, whose place is free if numbers are given again; otherwise a list's length is the number ever made.
--- If queued calls lend, each port has a holder after the mutexes, whose owner is the port's server.
--- Thread n is the nth of `threads`, `records` and `clients`; a removed thread's record stays Dead.
+-- Tickets, threads, ports and mutexes are numbered from 1; currencies are numbered from 0, which is base. A removal
+-- leaves a gap, whose place is free with `reuse`; without it a list's length is the number ever made. With
+-- `queued_lend` each port has a holder after the mutexes, whose owner is the port's server. Thread n is the nth of
+-- `threads`, `records` and `clients`; a removed thread's record stays Dead.
 pub record State : Type 0 where
   pub currencies : List (Option (List ℕ))  -- each currency's name
   pub tickets : List (Option Ticket)
@@ -76,7 +76,7 @@ sizes_of l = record {
 abbrev pub holder_of : Sizes → ℕ → ℕ
 holder_of limits port = limits.mutexes + port
 
--- as many holders as mutexes, and one for each port if queued calls lend
+-- as many holders as mutexes, and with `queued_lend` one for each port
 abbrev pub holders : Sizes → ℕ
 holders limits = limits.mutexes + (if limits.queued_lend then limits.ports else 0)
 
@@ -98,9 +98,9 @@ opening limits = record {
 abbrev pub thread_at : List (Option Thread) → ℕ → Option Thread
 thread_at threads t = option_flatten (at_number threads t)
 
--- ---- places that are given again
+-- ---- places for `reuse`
 
--- these free places if numbers are given again, otherwise none
+-- these free places with `reuse`, otherwise none
 abbrev pub given_again : State → List ℕ → List ℕ
 given_again s free = if s.limits.reuse then free else []
 
@@ -128,19 +128,19 @@ next_thread s = next_place s.threads (free_threads s) + 1
 
 -- ---- the funding graph of a state
 
--- whether those whose calls are queued at the port lend
+-- whether the callers of queued calls at the port lend
 abbrev pub lends_at : Sizes → ℕ → Bool
 lends_at limits port = limits.queued_lend && nat_le port limits.ports
 
--- The receiver of a thread's lend: a served thread's server, a waiting thread's mutex, the holder of a queued thread's
--- port if queued calls lend, or nobody; in a kernel without lending always nobody (3.1, 4.6, 6.1).
+-- The receiver of a thread's lend: a served thread's server, a waiting thread's mutex, with `queued_lend` the holder of
+-- a queued thread's port, or nobody; in a kernel without lending always nobody (3.1, 4.6, 6.1).
 abbrev pub lend_of : Sizes → Status → Lend
 lend_of limits (Served server) = if limits.without_lending then Nobody else ToThread server
 lend_of limits (Waiting mutex) = if limits.without_lending then Nobody else ToMutex mutex
 lend_of limits (Queued port) = if limits.without_lending then Nobody else (if lends_at limits port then ToMutex (holder_of limits port) else Nobody)
 lend_of limits other = Nobody
 
--- whether a thread with this status is live: it competes or runs
+-- whether a thread with this status is live: Ready or Running
 abbrev pub is_live_status : Status → Bool
 is_live_status Ready = true
 is_live_status (Running processor used) = true

@@ -2,8 +2,8 @@
 use Rattle.std.specs.Prelude.{ℕ, ◌+◌, ◌-◌, ◌^◌, nat_lt, nat_le, ◌==◌, Bool, false, not, ◌||◌, Option, Some, None, is_some, is_none, List, [], ◌∷◌, map, slice_index, option_and_then, unwrap_or}
 use Rattle.lot_machine.specs.declared.record.Record.{Record}
 use Rattle.lot_machine.specs.declared.record.Status.TheVariants as status
-use Rattle.lot_machine.specs.declared.action.Action.{Action}
-use Rattle.lot_machine.specs.declared.action.Action.TheVariants.{Yield, Call, Receive, Reply as ReplyTo, Serve, Lock, Unlock, Sleep, Exit}
+use Rattle.lot_machine.specs.Actions.{Action}
+use Rattle.lot_machine.specs.declared.trap.Trap.TheVariants.{Yield, Call, Receive, Reply as ReplyTo, Serve, Lock, Unlock, Sleep, Exit}
 use Rattle.lot_machine.specs.declared.event.Event.{Event}
 use Rattle.lot_machine.specs.declared.event.Event.TheVariants as event
 use Rattle.lot_machine.specs.declared.refusal.Refusal.{Refusal}
@@ -38,7 +38,7 @@ is_bad_processor s p = (p == 0) || nat_lt s.limits.processors p
 abbrev pub started : ℕ → Record → Record
 started p r = record r { status = status.Running p 0; compensation = None; delivered = None; quanta = saturated (r.quanta + 1) }
 
--- A draw is the lottery over the weights of the Ready threads in ascending order. If nobody wins, nothing changes
+-- A draw is the lottery over the weights of the Ready threads in ascending order. Without a winner nothing changes
 -- (4.2).
 abbrev pub draw : State → ℕ → ℕ → Step
 draw s p d = drawn (winner (map (weight_of s) (ready_threads s.records)) d)
@@ -93,7 +93,7 @@ trap_refusal s t (Lock m) =
     first_failing ((is_no_mutex s m, NoMutex) ∷ (owns s t m, AlreadyOwner)
     ∷ (option_any (λ owner. lends_on_to (without_servers s) owner t) (mutex_at s.mutexes m).owner, LockCycle) ∷ [])
 trap_refusal s t (Unlock m d) = first_failing ((is_no_mutex s m, NoMutex) ∷ (not (owns s t m), NotOwner) ∷ [])
-trap_refusal s t Sleep = None
+trap_refusal s t (Sleep n) = None
 trap_refusal s t Exit = None
 
 -- the state after a trap, its outcome, and the disposition of the thread that made it
@@ -114,7 +114,7 @@ at_port s t p e = record { state = record (of_ports s e).state { mutexes = serve
 abbrev pub of_mutexes : State → MutexTrap → Effect
 of_mutexes s e = record { state = record s { records = e.records; mutexes = e.mutexes }; outcome = e.outcome; after = e.after }
 
--- the effect of a trap that isn't refused (4.6, 6.1)
+-- the effect of a trap that passes its checks (4.6, 6.1)
 abbrev pub trap_effect : State → ℕ → Action → Effect
 trap_effect s t Yield = record { state = s; outcome = outcome.Yielded; after = Leaves status.Ready }
 trap_effect s t (Call p number) = at_port s t p (call s.records s.clients s.ports t p number)
@@ -123,10 +123,10 @@ trap_effect s t (ReplyTo number) = of_ports s (reply s.records s.clients s.ports
 trap_effect s t (Serve p number) = at_port s t p (serve s.records s.clients s.ports t p number)
 trap_effect s t (Lock m) = of_mutexes s (lock s.records (before_lock s t m) t m)
 trap_effect s t (Unlock m d) = of_mutexes s (unlock s.records s.mutexes (value_of s) m d)
-trap_effect s t Sleep = record { state = s; outcome = outcome.Slept; after = Leaves status.Asleep }
+trap_effect s t (Sleep n) = record { state = s; outcome = outcome.Slept; after = Leaves status.Asleep }
 trap_effect s t Exit = record { state = record s { mutexes = left_by s t }; outcome = outcome.Exited; after = Ends }
 
--- the effect, unless there is a refusal, which changes nothing and lets the thread go on
+-- the effect, or without a change the refusal, if there is one; then the thread goes on
 abbrev pub checked_effect : State → Option TrapRefusal → Effect → Effect
 checked_effect s None effect = effect
 checked_effect s (Some refusal) effect = record { state = s; outcome = outcome.Refused refusal; after = GoesOn }

@@ -26,11 +26,11 @@ largest = record { tickets = 65535; currencies = 4096; threads = 4096; ports = 2
 abbrev pub finer : Sizes
 finer = record largest { unit = 256 }
 
--- at most two tickets, two user currencies and two threads at once: their numbers are given again
+-- at most two tickets, two user currencies and two threads at once, with `reuse`
 abbrev pub two_of_each : Sizes
 two_of_each = record { tickets = 2; currencies = 2; threads = 2; ports = 0; mutexes = 0; processors = 1; scripts = 1; quantum = 100; unit = 1; reuse = true; plain_names = false; without_compensation = false; without_lending = false; queued_lend = false }
 
--- the same limits on all that are ever made
+-- the same limits on all that are ever made, without `reuse`
 abbrev pub two_in_all : Sizes
 two_in_all = record two_of_each { reuse = false }
 

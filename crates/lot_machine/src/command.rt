@@ -46,7 +46,7 @@ pub enum Command {
         ticket: u64,
         amount: u64,
     },
-    /// `mkthr`; script 0 means no script, and a name without bytes no name
+    /// `mkthr`; script 0 means no script, and a name without bytes means no name
     MakeThread {
         name: Name,
         script: u32,
@@ -55,9 +55,9 @@ pub enum Command {
     RemoveThread {
         thread: ThreadRef,
     },
-    /// `kill`: ends a thread in any status, and takes it off its processor or out of its queue. Its mutexes pass to
-    /// those that have waited longest for them; its clients are Ready, with nothing delivered. A thread that runs is
-    /// charged nothing more: a host that wants to charge what it ran makes an `Event::Preempt` before.
+    /// `kill`: ends a thread in any status, and takes it off its processor or out of its queue. Its mutexes pass to the
+    /// threads that have waited longest for them; its clients are Ready, with nothing delivered. A running thread is
+    /// charged nothing more. To charge the ticks that it ran, a host makes an `Event::Preempt` first.
     Kill {
         thread: ThreadRef,
     },
@@ -73,6 +73,8 @@ pub enum Command {
 }
 
 impl Command {
+    ghost use Rattle.lot_machine.specs.Verbs.{for_ticket};
+
     /// A copy of the command. It allocates nothing.
     pub fn copied(&self) -> Self
         ensures { result ≡ self.now }
@@ -120,6 +122,20 @@ impl Command {
                 script: *script,
             },
             Command::List(kind) => Command::List(*kind),
+        }
+    }
+
+    /// The command for this ticket, if it is one for a ticket.
+    #[inline(always)]
+    pub fn for_ticket(self, ticket: u64) -> Self
+        ensures { result ≡ for_ticket ticket self }
+    {
+        match self {
+            Command::RemoveTicket { .. } => Command::RemoveTicket { ticket },
+            Command::Fund { target, .. } => Command::Fund { ticket, target },
+            Command::Unfund { .. } => Command::Unfund { ticket },
+            Command::SetTicket { amount, .. } => Command::SetTicket { ticket, amount },
+            other => other,
         }
     }
 }

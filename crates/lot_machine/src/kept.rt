@@ -16,11 +16,12 @@ ghost use Rattle.lot_machine.specs.State.{State, opening, funding_of, change_rec
 ghost use Rattle.lot_machine.specs.Commands.{command_step};
 ghost use Rattle.lot_machine.specs.Step.{step, state_after};
 ghost use Rattle.lot_machine.specs.Change.{Change, applied_all};
-ghost use Rattle.lot_machine.specs.Named.{processor_of, killed_by, thread_in};
+ghost use Rattle.lot_machine.specs.Named.{processor_of, thread_in};
 ghost use Rattle.lot_machine.specs.Bounds.{IsWithinBounds};
 ghost use Rattle.lot_machine.specs.declared.sizes.Sizes.{Sizes};
 ghost use Rattle.lot_machine.specs.declared.event.Event.{Event};
 ghost use Rattle.lot_machine.specs.declared.record.Record.{Record};
+ghost use Rattle.lot_machine.specs.declared.reply.Reply.TheVariants.{Killed};
 ghost use Rattle.lot_machine.specs.declared.record.Status.TheVariants.{Running};
 
 /// A new ticket that funds no currency makes no cycle, and tickets still fund only existing currencies.
@@ -79,8 +80,7 @@ pub fn commands_keep()
         → FundsThere (funding_of (command_step s c).state) }
 {}
 
-/// A thread that starts to lend to another, or stops lending, makes no cycle if no lends lead from the borrower back
-/// to it.
+/// A thread that starts or stops lending to another makes no cycle, if no lends lead from the borrower back to it.
 pub fn lends_keep()
     ensures nobody { (f : Funding) (t : ℕ) → HasNoCycle f
         → HasNoCycle (record f { lends = set_number f.lends t Nobody }) }
@@ -93,7 +93,7 @@ pub fn lends_keep()
     ensures one_more { (f : Funding) → HasNoCycle f → HasNoCycle (record f { lends = f.lends ++ Nobody ∷ [] }) }
 {}
 
-/// A mutex that becomes free makes no cycle, and neither does one that passes to a thread which lends to nobody.
+/// Freeing a mutex makes no cycle, and neither does passing it to a thread that lends to nobody.
 pub fn owners_keep()
     ensures freed { (f : Funding) (m : ℕ) → HasNoCycle f
         → HasNoCycle (record f { owners = set_number f.owners m None }) }
@@ -144,16 +144,15 @@ pub fn events_keep_apart()
     ensures { (s : State) (e : Event) → RunsApart s.records → RunsApart (step s e).state.records }
 {}
 
-/// In a state that is in order, an event of one processor changes neither the thread that runs on another, unless it
-/// kills that thread, nor the ticks that each other thread has used there. If it kills the thread, the processor is
-/// idle afterwards.
+/// In a state that is in order, an event of one processor changes neither the thread that runs on another, unless the
+/// event kills that thread, nor the ticks used there. After such a kill that processor is idle.
 pub fn other_processors_run_on()
     ensures thread { (s : State) (e : Event) (p : ℕ) → IsInOrder s → ¬ (processor_of e ≡ Some p)
-        → ((t : ℕ) → thread_on s.records p ≡ Some t → ¬ (killed_by s e ≡ Some t))
+        → ((t : ℕ) → thread_on s.records p ≡ Some t → ¬ ((step s e).reply ≡ Killed t))
         → thread_on (step s e).state.records p ≡ thread_on s.records p }
     ensures used { (s : State) (e : Event) (p t : ℕ) → IsInOrder s → ¬ (processor_of e ≡ Some p)
-        → ¬ (killed_by s e ≡ Some t) → used_by (step s e).state.records p t ≡ used_by s.records p t }
-    ensures killed { (s : State) (e : Event) (p t : ℕ) → IsInOrder s → killed_by s e ≡ Some t
+        → ¬ ((step s e).reply ≡ Killed t) → used_by (step s e).state.records p t ≡ used_by s.records p t }
+    ensures killed { (s : State) (e : Event) (p t : ℕ) → IsInOrder s → (step s e).reply ≡ Killed t
         → thread_on s.records p ≡ Some t → thread_on (step s e).state.records p ≡ None }
 {}
 
@@ -168,8 +167,8 @@ pub fn limits_stay()
     ensures { (s : State) (e : Event) → (step s e).state.limits ≡ s.limits }
 {}
 
-/// Base's active tickets are worth less than 2 ^ 56 if amounts have 32 bits, no more tickets were made than the limit
-/// allows, and sizes are within their bounds.
+/// Base's active tickets are worth less than 2 ^ 56 if amounts have 32 bits, tickets are within their limit, and sizes
+/// are within their bounds.
 pub fn base_is_bounded()
     ensures { (s : State) → All (λ o. IfSome o (λ t. t.amount < 2 ^ 32)) s.tickets
         → length s.tickets ≤ s.limits.tickets → IsWithinBounds s.limits → base_value s < 2 ^ 56 }

@@ -40,16 +40,16 @@ pub fn backing_is_followed()
         ↔ ((chain : List ℕ) × (u : ℕ) × IsLendChain f t chain u × IsLive live u × (length chain ≤ k)) }
 {}
 
-/// The test for an active ticket is true if and only if a chain of tickets begins with it and ends at a backed
-/// thread, with no more tickets after the first than the test may follow.
+/// The test for an active ticket is true if and only if a chain of tickets begins with it and ends at a backed thread,
+/// with no more tickets after the first than the test's depth.
 pub fn activity_is_followed()
     ensures { (k : ℕ) (f : Funding) (live : List Bool) (n : ℕ) (target : Target) → target_of f n ≡ Some target
         → IsTrue (activates_within k f live target)
         ↔ ((rest : List ℕ) × (t : ℕ) × IsChain f n rest (Thread t) × IsTrue (is_backed f live t) × (length rest ≤ k)) }
 {}
 
-/// The test for a cycle is true if and only if both currencies are one, or a chain of no more tickets than the test
-/// may follow leads from one to the other.
+/// The test for a cycle is true if and only if both currencies are one, or a chain of no more tickets than the test's
+/// depth leads from one to the other.
 pub fn cycles_are_followed()
     ensures { (k : ℕ) (f : Funding) (c issuer : ℕ) → IsTrue (reaches_within k f c issuer)
         ↔ ((c ≡ issuer) ⊎ ((first : ℕ) × (rest : List ℕ) × (issuer_of f first ≡ Some c)
@@ -160,8 +160,8 @@ pub fn node_values_are_bounded()
         → node ≢ nodes.Currency 0 → node_value unit f live node ≤ active_amount f live 0 * unit }
 {}
 
-/// The list of edges into a node holds each such edge exactly once, and its length is the counted number. Any other
-/// list that holds each exactly once has the same sums.
+/// The list of edges into a node holds each such edge exactly once, and its length is the count that the machine
+/// defines. Any other list that holds each exactly once has the same sums.
 pub fn edges_into_are_exact()
     ensures edges { (f : Funding) (node : Node) → HasEachOnce (edges_into f node) (LeadsInto f node) }
     ensures count { (f : Funding) (node : Node) → length (edges_into f node) ≡ edge_count_into f node }
@@ -205,8 +205,8 @@ pub fn solutions_are_node_values()
         → (node : Node) → ¬ Contains unknown node → HasEquation f node → worth node ≡ node_value unit f live node }
 {}
 
-/// The equation of a node reads only the values of the nodes with an edge into it, and never base's. It is unchanged
-/// if these edges stay and pass on as much.
+/// The equation of a node reads only the values of the nodes with an edge into it, and never base's. A change leaves it
+/// alone if these edges stay and pass on as much.
 pub fn equations_are_local()
     ensures reads { (f : Funding) (unit : ℕ) (live : List Bool) (worth other : Node → ℕ) (node : Node)
         → ((from : Node) → IsEdge f from node → from ≢ nodes.Currency 0 → worth from ≡ other from)

@@ -1,9 +1,8 @@
-//! The vocabulary of the machine: requests to a lottery-scheduled kernel, its replies, and the parts of its state.
+//! The vocabulary of the machine: the events of a lottery-scheduled kernel, its replies, and the parts of its state.
 //!
 //! Its tests stand in `lot_kernel_tests`.
 #![tactic(auto)]
 
-mod action;
 mod after;
 mod command;
 mod drawn;
@@ -23,9 +22,10 @@ pub mod reused;
 mod row;
 mod sizes;
 mod ticket;
+mod trap;
+mod verb;
 pub mod worked;
 
-pub use action::Action;
 pub use after::After;
 pub use command::{Command, Kind};
 pub use drawn::Drawn;
@@ -43,3 +43,5 @@ pub use reply::{Outcome, Reply};
 pub use row::{CurrencyRow, ThreadRow, TicketRow};
 pub use sizes::Sizes;
 pub use ticket::{Target, Ticket};
+pub use trap::{Action, ScriptTrap, Trap, TrapWord};
+pub use verb::{Arguments, Sink, Slot, Verb, command_of, form_of, give_parts};

@@ -1,7 +1,7 @@
 //! The limits of a kernel.
 ghost use Rattle.lot_machine.specs.Bounds.{IsWithinBounds};
 
-/// Sizes within their bounds.
+/// The limits of a kernel: sizes within their bounds.
 #[derive(Clone, Copy, Debug, PartialEq, Eq)]
 pub struct Limits {
     pub tickets: u32,

@@ -8,7 +8,7 @@ use crate::Limits;
 use arrayvec::ArrayVec;
 use std::marker::Model;
 
-/// A name of at most 16 bytes, not necessarily a good one. One without bytes means that there is no name.
+/// A name of at most 16 bytes, not necessarily a good one. No bytes mean no name.
 #[derive(Clone, Debug, PartialEq, Eq, Drop)]
 pub struct Name {
     bytes: ArrayVec<u8, 16>,
@@ -88,21 +88,21 @@ impl Limits {
     }
 }
 
-/// Whether the bytes are a plain name: at least one, each printable ASCII, except for the space.
+/// Whether the bytes are a plain name: at least one byte, each printable ASCII but the space.
 pub fn is_plain_name(bytes: &[u8]) -> bool
     ensures { result ≡ names.is_plain_name bytes.now }
 {
     !bytes.is_empty() && are_printable(bytes)
 }
 
-/// Whether each byte is printable ASCII, except for the space.
+/// Whether each byte is printable ASCII but the space.
 fn are_printable(bytes: &[u8]) -> bool
     ensures { result ≡ list_all names.is_printable bytes.now }
 {
     bytes.iter().all(|byte| is_printable(*byte))
 }
 
-/// Whether the byte is printable ASCII, except for the space.
+/// Whether the byte is printable ASCII but the space.
 fn is_printable(byte: u8) -> bool
     ensures { result ≡ names.is_printable byte }
 {
@@ -119,7 +119,7 @@ pub fn is_good_name(bytes: &[u8]) -> bool
     is_letter(*first) && are_name_bytes(others)
 }
 
-/// Whether each byte may follow a name's first.
+/// Whether each byte may follow a good name's first letter.
 fn are_name_bytes(bytes: &[u8]) -> bool
     ensures { result ≡ list_all names.is_name_byte bytes.now }
 {
@@ -133,7 +133,7 @@ fn is_letter(byte: u8) -> bool
     97 <= byte && byte <= 122
 }
 
-/// Whether the byte may follow a name's first.
+/// Whether the byte may follow a good name's first letter.
 fn is_name_byte(byte: u8) -> bool
     ensures { result ≡ names.is_name_byte byte }
 {

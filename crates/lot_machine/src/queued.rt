@@ -1,4 +1,4 @@
-//! Queued calls, and that they may lend: laws of the machine, without executable code.
+//! Queued calls, which may lend: laws of the machine, without executable code.
 ghost use Rattle.std.specs.Prelude.{◌≡◌, ℕ, List, length, is_none, false};
 ghost use Rattle.lot_machine.specs.declared.event.Event.{Event};
 ghost use Rattle.lot_machine.specs.declared.sizes.Sizes.{Sizes};
@@ -11,22 +11,22 @@ ghost use Rattle.lot_machine.specs.Order.{HasOneSidedPorts};
 ghost use Rattle.lot_machine.specs.Servers.{served_at, without_servers, before_lock, left_by};
 ghost use Rattle.lot_machine.specs.Step.{is_no_mutex, step, state_after};
 
-/// No call is queued at a port while a thread waits to receive there: so it is at the start, each event preserves it,
-/// and it holds in every state that is reached (4.6).
+/// No call waits in a port's queue while a thread waits there to receive (4.6). That holds at the start, each event
+/// preserves it, and so it holds in every reachable state.
 pub fn no_call_waits_beside_a_receiver()
     ensures start { (limits : Sizes) → HasOneSidedPorts (opening limits) }
     ensures event { (s : State) (e : Event) → HasOneSidedPorts s → HasOneSidedPorts (step s e).state }
     ensures reached { (limits : Sizes) (events : List Event) → HasOneSidedPorts (state_after (opening limits) events) }
 {}
 
-/// There are as many holders as mutexes, and one more for each port if queued calls lend.
+/// There are as many holders as mutexes, and with `queued_lend` one more for each port.
 pub fn holders_are_counted()
     ensures { (limits : Sizes) (events : List Event)
         → length (state_after (opening limits) events).mutexes ≡ holders limits }
 {}
 
-/// Unless queued calls lend there are no holders but the mutexes, a queued caller lends to nobody, no trap gives or
-/// takes a server, and a lock is refused by the whole funding.
+/// Without `queued_lend` the mutexes are the only holders, a queued caller lends to nobody, no trap gives or takes a
+/// server, and a lock that would close a cycle anywhere in the funding is refused.
 pub fn nothing_else_changes()
     ensures holders { (limits : Sizes) → limits.queued_lend ≡ false → holders limits ≡ limits.mutexes }
     ensures lends { (limits : Sizes) (port : ℕ) → limits.queued_lend ≡ false → lend_of limits (Queued port) ≡ Nobody }

@@ -1,4 +1,4 @@
-//! The numbers that a kernel gives: laws of the machine, without executable code.
+//! The numbers that a kernel gives, with `reuse` and without: laws of the machine, without executable code.
 ghost use Rattle.std.specs.Prelude.{◌≡◌, ◌≢◌, ◌+◌, ◌<◌, ◌≤◌, ◌++◌, ◌∷◌, [], Some, true, false, is_some, ℕ, List};
 ghost use Rattle.std.specs.Prelude.{length, count_by};
 ghost use Rattle.lot_machine.specs.declared.ticket.Ticket.{Ticket};
@@ -9,8 +9,8 @@ ghost use Rattle.lot_machine.specs.Commands.{drop_ticket, drop_currency, drop_th
 ghost use Rattle.lot_machine.specs.Commands.{are_tickets_full, are_currencies_full, are_threads_full};
 ghost use Rattle.lot_machine.specs.Order.{IsInOrder};
 
-/// A kernel without `reuse` gives each number once: one more ticket, currency or thread comes at the end of its
-/// table, with the next number.
+/// A kernel without `reuse` gives each number once: one more ticket, currency or thread comes at the end of its table,
+/// with the next number.
 pub fn numbers_are_given_once()
     ensures tickets { (s : State) (ticket : Ticket) → s.limits.reuse ≡ false
         → (with_ticket s ticket).tickets ≡ s.tickets ++ Some ticket ∷ [] }
@@ -26,8 +26,7 @@ pub fn numbers_are_given_once()
         × (next_currency s ≡ length s.currencies) × (next_thread s ≡ length s.threads + 1) }
 {}
 
-/// A kernel with `reuse` gives the number of what was removed last to the next one, and then those that were free
-/// before.
+/// A kernel with `reuse` gives the number freed last first, and then those freed before it.
 pub fn the_last_removed_comes_first()
     ensures ticket { (s : State) (n : ℕ) → s.limits.reuse ≡ true → n ≢ 0 → next_ticket (drop_ticket s n) ≡ n }
     ensures currency { (s : State) (c : ℕ) → s.limits.reuse ≡ true → next_currency (drop_currency s c) ≡ c }

@@ -6,9 +6,8 @@ ghost use Rattle.lot_machine.specs.State.{sizes_of};
 
 use crate::Limits;
 
-/// The sizes of a kernel: the largest numbers of tickets, user currencies and threads, the numbers of ports, mutexes,
-/// processors and scripts, the ticks of a quantum, the value of one of base, whether numbers are given again, which
-/// names are allowed, and whether threads are compensated and lend.
+/// The sizes of a kernel: the limits on tickets, user currencies and threads, the numbers of ports, mutexes, processors
+/// and scripts, the quantum, the unit of value, and departures from the paper.
 #[derive(Clone, Copy, Debug, PartialEq, Eq)]
 pub struct Sizes {
     /// 1 to 65535.
@@ -27,15 +26,15 @@ pub struct Sizes {
     pub scripts: u32,
     /// In ticks, 1 to 1000.
     pub quantum: u32,
-    /// 1, or 256 for finer shares.
+    /// 1, or 256 for finer shares: an active base ticket is worth its amount times the unit.
     pub unit: u32,
-    /// Whether the number of what is removed is given again, that of the last removed first. The limits then count
-    /// what exists at once, and otherwise what was ever made.
+    /// Whether a removal frees its number for the next ticket, currency or thread, the number freed last first. With it
+    /// the limits count what exists at once, without it what was ever made.
     pub reuse: bool,
     /// Whether a name may have any printable ASCII but the space. Otherwise it is a letter a to z, followed by letters
     /// a to z, digits, `_` or `-`.
     pub plain_names: bool,
-    /// Whether no thread is compensated: one that gave up its quantum early, or ran past its end, weighs its value.
+    /// Whether every thread weighs its value, also one that gave up its quantum early or ran past its end.
     pub without_compensation: bool,
     /// Whether a blocked thread lends to nobody: its server, or the owner of its mutex, has its own tickets alone.
     pub without_lending: bool,
@@ -44,8 +43,8 @@ pub struct Sizes {
 }
 
 impl Sizes {
-    /// The smallest sizes within their bounds. No number is given again, names are good names,
-    /// threads are compensated, and blocked ones lend, unless their call is queued.
+    /// The smallest sizes within their bounds, without `reuse`, plain names or `queued_lend`, and with compensation and
+    /// lending.
     pub const SMALLEST: Sizes = Sizes {
         tickets: 1,
         currencies: 1,
@@ -62,8 +61,8 @@ impl Sizes {
         without_lending: false,
         queued_lend: false,
     };
-    /// The largest sizes within their bounds. No number is given again, names are good names,
-    /// threads are compensated, and blocked ones lend, unless their call is queued.
+    /// The largest sizes within their bounds, without `reuse`, plain names or `queued_lend`, and with compensation and
+    /// lending.
     pub const LARGEST: Sizes = Sizes {
         tickets: 65535,
         currencies: 4096,
@@ -111,7 +110,7 @@ impl Limits {
 }
 
 impl Limits {
-    /// The number of mutexes, and of ports too if queued calls lend: each of them may have an owner.
+    /// The number of holders: the mutexes, and with `queued_lend` the ports too. Each may have an owner.
     pub fn holders(&self) -> u32
         ensures number { result ≡ states.holders (sizes_of self.now) }
         ensures few { result ≤ 512 }

@@ -1,4 +1,4 @@
--- A mutex that is handed over, in three changes of the threads: it becomes free, its next owner wakes, and it belongs to that one.
+-- A mutex handed over, in three changes of the threads: it becomes free, its next owner wakes, and it gets that owner.
 use Rattle.lot_mutex.proofs.Common.{CanOwn, IsLive, IsMutex, IsOwnerBetween, IsThreadOf, List, MakesStaleIn, None, Option, Ready, Record, Some, Threaded, ap, arith, at_number, cases_eq, change_record, funding_in, inl, inr, length, length-set, live-apart, live-status, live-there, live_in, makes-each, number-again, number-set, number-set_same, number-some, option_flatten, option_map, owner_of, refl, released, set_number, some-injective, status-now, status_of, subst, suc, sym, with_records, ℕ, ◌-◌, ◌∙◌, ◌≡◌, ◌≢◌, ◌⊎◌}
 
 module _ (a b d : Threaded) (m next : ℕ) (mutex : IsMutex (funding_in a) m) (thread : IsThreadOf a next) (other : owner_of (funding_in a) m ≢ Some next)

@@ -1,4 +1,4 @@
--- Who owns each mutex, as the queues have it and as the threads have it.
+-- The owner of each mutex, in the queues and in the threads.
 use Rattle.lot_mutex.proofs.Common.{Drawn, IfSome, IsThere, IsTrue, Leaves, List, Mutex, MutexTrap, None, Option, Passed, Record, Some, Threaded, ap, arith, at_number, at_number-map, at_number-suc, change_record, is_some, length, length-map, lock, map, map-set, mutex_at, number-kept, number-some, option_flatten, option_map, owners_of, refl, remove, set_number, slice_get, slice_get-get_or, slice_index, some-injective, suc, sym, unlock, unwrap_or, winner, with_mutexes, ℕ, [], ◌++◌, ◌-◌, ◌<◌, ◌∙◌, ◌∷◌, ◌≡◌, ◌≢◌, ◌≤◌}
 use Rattle.lot_machine.specs.declared.record.Status.TheVariants as status
 

@@ -1,4 +1,4 @@
--- The mutexes of a thread are passed on, one after another.
+-- The mutexes of a thread, passed on one after another.
 use Rattle.lot_mutex.proofs.Common.{Bool, IsMutex, IsNowhere, IsOwnerBetween, IsStaleIn, IsThere, IsThreadOf, List, MakesStaleIn, Mutex, Node, None, Option, QueueLists, Record, Some, Threaded, ap, append-nil, append_assoc, arith, at_number, at_number-suc, cases_eq, change_each, change_record, cond, cons_option, contains-at, drop, each-append, each-between, each-length, eq-eqb, eqb, eqb-false, eqb-true, false, filter_map, filter_map-append, first-none, first-some, funding_in, inl, inr, is_owned_by, length, length-append, length-map, makes-each, map, map-append, mutex-passed, mutex_at, next_from, number-set, option_any, option_eq, option_flatten, owner_of, owners_of, passed_from, passed_on, refl, released, remove, set-append_seam, set_number, slice_get, slice_set, some-injective, subst, suc, sym, take, true, unwrap_or, with_owner, with_records, with_waiters, ℕ, [], ◌++◌, ◌+◌, ◌-◌, ◌<◌, ◌==◌, ◌∙◌, ◌∷◌, ◌≡◌, ◌≢◌, ◌⊎◌}
 use Rattle.lot_mutex.proofs.Owners.{owned-there, owner-at, owners-after}
 

@@ -1,4 +1,4 @@
--- A mutex that is passed on, in two changes of the threads: its next owner wakes, and the mutex moves to it.
+-- A mutex passed on, in two changes of the threads: its next owner wakes, and the mutex moves to it.
 use Rattle.lot_mutex.proofs.Common.{Contains, Edge, Funding, IsLive, IsStaleIn, IsTouched, Lend, List, MakesStaleIn, Meter, Node, None, OfLender, OfMutex, OfTicket, Option, Outcome, Passed, PathLeads, Ready, Record, Some, Threaded, WeighedBetween, ap, at_number, at_number-map, change_record, contains-nothing, edges-between, funding_in, inl, inr, is_live_status, lends_in, live-between, live_in, makes-both-in, option_map, refl, set_number, settled_in, some-injective, status_of, subst, sym, weighed_of, with_records, ℕ, [], ◌∙◌, ◌≡◌, ◌⊎◌}
 
 -- ---- edges

@@ -1,4 +1,4 @@
--- Lists of threads that wait, place by place.
+-- Lists of waiting threads, index by index.
 use Rattle.lot_mutex.proofs.Common.{Contains, IsQueue, List, Record, Some, Status, ap, arith, cases_lt, contains-at, eq-or-lt_of_le, get_or_from_slice_get, inl, inr, length, slice_get, slice_get-get_or, slice_get_within, slice_index, status_of, subst, suc, sym, take, zero, ℕ, [], ◌+◌, ◌<◌, ◌∙◌, ◌∷◌, ◌≡◌, ◌≤◌, ◌⊎◌}
 
 -- what holds at each place before one, and at that one, holds at each up to it

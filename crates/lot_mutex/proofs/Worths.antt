@@ -1,4 +1,4 @@
--- What the waiters for a mutex are worth together: no more than the mutex.
+-- The waiters for a mutex together are worth no more than the mutex.
 use Rattle.lot_mutex.proofs.Common.{All, Bool, Contains, Drawn, IfSome, IsFirstAbove, IsQueue, IsStaleIn, IsThreadOf, List, MatchOption, Nobody, Node, None, Option, Record, Some, Threaded, ToMutex, Waiting, ap, apart-from, arith, at_number, at_number-map, borrower_of, contains-nothing, eq-eqb, false, filter-contains, funding_in, if◌then◌else◌, is_live, is_live_status, is_to_mutex, lend-at, lend_of, lends-to-nobody, lends_in, length, length-map, live_in, map, mutex_value, number-high, number-low, numbers, option_any, option_map, place-in, range-contains, refl, slice_get, slice_get-get_or, some-injective, subst, suc, sum, sum-map, sum_by, sum_by-cons, sums-within, true, unlent-nothing, waiters_for, winner, winner-is, worth_in, ℕ, [], ◌%◌, ◌<◌, ◌∙◌, ◌∷◌, ◌≡◌, ◌≤◌}
 
 -- what is worth nothing each is worth nothing together

@@ -1,4 +1,4 @@
--- Lotteries, locks and unlocks as their contracts see them.
+-- Lotteries, locks and unlocks in contracts.
 use Rattle.std.specs.Prelude.{◌≡◌, ◌≢◌, ℕ, Option, None, List, [], map, slice_get, if◌then◌else◌}
 use Rattle.lot_machine.specs.declared.funding.Node.{Node}
 use Rattle.lot_machine.specs.Kill.{is_owned_by, passed_on}
@@ -9,7 +9,7 @@ use Rattle.lot_threads.specs.declared.effect.TrapEffect.{TrapEffect}
 use Rattle.lot_threads.specs.Threaded.{Threaded, IsStaleIn, settled_in}
 use Rattle.lot_value.specs.Caches.{HasNoneTwice}
 
--- the largest number of waiters, and the listed waiters in the order of waiting
+-- the capacity, and the listed waiters in the order of waiting
 pub record Listed : Type 0 where
   pub room : ℕ
   pub waiters : List ℕ
@@ -29,7 +29,7 @@ pub record IsMutexTrap (v : Threaded) (q : QueueLists) (trap : MutexTrap) (effec
   pub threads : new ≡ with_mutexes v trap new.stale
   pub queues : left ≡ record q { mutexes = trap.mutexes }
 
--- an unlock settles for its lottery over these waiters, and leaves stale nodes and counts as they are if there are none
+-- an unlock with these waiters settles for its lottery; without waiters it leaves stale nodes and counts alone
 pub record UnlockSettles (waiters : List ℕ) (old new : Threaded) : Type 0 where
   -- if nobody waits, stale nodes remain stale
   pub kept : waiters ≡ [] → (node : Node) → IsStaleIn old node → IsStaleIn new node

@@ -1,4 +1,4 @@
-//! Checks of the premises of `lock` and `unlock` about threads and queues.
+//! Tests of the premises of `lock` and `unlock` about threads and queues.
 ghost use Rattle.std.specs.Prelude.{◌≡◌, ◌↔◌, ◌<◌, Contains, IsTrue, Some, length, slice_index, take};
 ghost use Rattle.lot_machine.specs.declared.record.Status.TheVariants as status;
 ghost use Rattle.lot_machine.specs.Order.{IsQueue};

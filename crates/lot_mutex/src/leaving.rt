@@ -1,4 +1,4 @@
-//! Mutexes that a thread leaves behind when it is killed (6.1).
+//! The mutexes of a killed thread (6.1).
 ghost use Rattle.std.specs.Prelude.{◌≡◌, ◌≢◌, ℕ, Some, filter_map, length, map, slice_get, take};
 ghost use Rattle.lot_machine.specs.declared.funding.Node.{Node as ANode};
 ghost use Rattle.lot_machine.specs.Funding.{owner_of};
@@ -16,8 +16,8 @@ use lot_queues::Queues;
 use lot_threads::Threads;
 use lot_value::GraphChange;
 
-/// Passes each mutex of a thread to the one that has waited longest for it, which becomes Ready; without waiters the
-/// mutex becomes free. The thread itself must wait nowhere.
+/// Passes each mutex of a thread to the waiter that has waited longest, which becomes Ready, or frees it without
+/// waiters. The thread itself must wait nowhere.
 pub fn pass_all_on(threads: &mut Threads, queues: &mut Queues, owner: ThreadNumber)
     requires nowhere { IsNowhere queues.old owner.number }
     requires same { length threads.old.records ≡ length queues.old.clients }
@@ -38,7 +38,7 @@ pub fn pass_all_on(threads: &mut Threads, queues: &mut Queues, owner: ThreadNumb
     }
 }
 
-/// Passes a mutex to the thread that has waited longest for it, which isn't its owner, or frees it if none waits.
+/// Passes a mutex to the waiter that has waited longest, which isn't its owner, or frees it without waiters.
 fn pass_on(threads: &mut Threads, queues: &mut Queues, mutex: u32)
     requires mutex { IsThere queues.old.mutexes mutex }
     requires apart { (next : ℕ) → slice_get (mutex_at queues.old.mutexes mutex).waiters 0 ≡ Some next
@@ -66,7 +66,7 @@ fn pass_on(threads: &mut Threads, queues: &mut Queues, mutex: u32)
     hand_over(threads, mutex, next);
 }
 
-/// Makes a thread Ready, and the owner of a mutex in place of another.
+/// Makes a thread Ready, and the owner of a mutex in place of another thread.
 fn hand_over(threads: &mut Threads, mutex: u32, next: u32)
     requires mutex { IsMutex (funding_in threads.old) mutex }
     requires thread { IsThreadOf threads.old next }

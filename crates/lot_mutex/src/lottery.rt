@@ -18,12 +18,12 @@ use std::alloc::{AllocError, Global};
 use std::marker::Model;
 use std::mem::size_of;
 
-// The memory of one waiter's number and value.
+// The bytes of one waiter's number and value.
 const WAITER_BYTES: u64 = size_of::<u32>() as u64 + size_of::<u128>() as u64;
 
 /// Scratch memory for the lottery of a mutex: its waiters and their values.
 pub struct Lottery {
-    /// The largest number of waiters.
+    /// The capacity, in waiters.
     room: u32,
     waiters: Stack<u32>,
     worths: Stack<u128>,
@@ -56,7 +56,8 @@ impl Model for Lottery {
 }
 
 impl Lottery {
-    /// Room for this many waiters, and none yet. It allocates all the memory that a lottery needs.
+    /// No waiters, with capacity for `threads`. It allocates all the memory that a lottery needs, and fails only if out
+    /// of memory.
     pub fn new(alloc: Global, threads: u32) -> Result<Lottery, AllocError>
         ensures { IfOk result (λ made. made ≡ record { room = threads; waiters = [] }) }
     {
@@ -67,24 +68,24 @@ impl Lottery {
         })
     }
 
-    /// The total of bytes that `new` requests from the allocator: 20 for each thread.
+    /// The number of bytes that `new` requests from the allocator: 20 for each thread.
     pub fn bytes(threads: u32) -> u64
         ensures { result ≡ 20 * threads }
     {
         WAITER_BYTES * threads as u64
     }
 
-    /// The bytes that it has room for: those that `new` requested, whatever has happened since.
+    /// The capacity in bytes: always exactly what `new` requested.
     pub fn held(&self) -> u64
         ensures { result ≡ 20 * self.now.room }
     {
-        // It fits 32 bits, so the sum fits.
+        // The capacity fits 32 bits, so the sum fits.
         let _room = self.room;
         size_of::<u32>() as u64 * self.waiters.room() as u64
             + size_of::<u128>() as u64 * self.worths.room() as u64
     }
 
-    /// The largest number of waiters.
+    /// The capacity, in waiters.
     pub fn room(&self) -> u32
         ensures { result ≡ self.now.room }
     {
@@ -106,7 +107,7 @@ impl Lottery {
         self.waiters.is_empty()
     }
 
-    /// The next owner: the lottery's winner, or the waiter that has waited longest if nobody wins.
+    /// The next owner: the lottery's winner, or the first waiter if nobody wins.
     pub(crate) fn picked(&self, drawn: Option<Drawn>) -> u32
         requires some { self.now.waiters ≢ [] }
         requires within { IfSome drawn (λ w. w.place < length self.now.waiters) }
@@ -118,8 +119,8 @@ impl Lottery {
         }
     }
 
-    /// Holds a lottery with the number `d` over the values of the listed waiters for the mutex. Returns `None` if
-    /// they sum to 0. Requires that no value is stale.
+    /// Holds a lottery with the number `d` over the values of the listed waiters for the mutex. Returns `None` if they
+    /// sum to 0. No value may be stale.
     pub(crate) fn hold(&mut self, threads: &Threads, mutex: u32, d: u128) -> Option<Drawn>
         requires settled { threads.now.stale ≡ [] }
         requires mutex { IsMutex (funding_in threads.now) mutex }

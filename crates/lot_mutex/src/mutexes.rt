@@ -20,7 +20,7 @@ use lot_queues::Queues;
 use lot_threads::{Threads, TrapEffect};
 use lot_value::GraphChange;
 
-/// A lock by a running thread: it takes a free mutex, or otherwise waits behind earlier threads.
+/// A lock by a running thread: it takes a free mutex, otherwise it waits behind earlier threads.
 pub fn lock(
     threads: &mut Threads,
     queues: &mut Queues,

@@ -1,4 +1,4 @@
--- The threads that sleep, as a table has them.
+-- The sleeping threads in a table.
 use Rattle.lot_playback.proofs.Common.{Alarms, AreAlarms, AreNumbered, Due, Each, IfSome, IsBetween, IsNextAlarm, List, Moment, None, Option, Program, Seen, Sleeper, Some, World, alarm_at, alarms_in, all_due, ap, append-nil, arith, at_number-suc, cases_lt, each-due, earliest, earliest-one, first-due, flat_map, found-runs, inl, inr, length, length-replicate, map, next_due, numbered, option_flatten, option_map_or, range_with_len, refl, replicate, sleeper-found, sleeper_on, slice_get, suc, sym, take, world_of, zero, ℕ, [], ◌++◌, ◌+◌, ◌-◌, ◌<◌, ◌∙◌, ◌∷◌, ◌≡◌, ◌≤◌, ◌⊎◌}
 use Rattle.lot_machine.specs.declared.record.Status.TheVariants as status
 use Rattle.lot_playback.proofs.TimeFacts.{range-push}

@@ -1,4 +1,4 @@
--- A system whose turns come in the order of time.
+-- A system with turns in the order of time.
 use Rattle.lot_playback.proofs.Common.{Answered, Due, Ended, Event, IsAtEnd, IsAtTime, IsDue, IsFollowed, IsNext, IsSome, List, MadeTurn, MakesTurn, Moment, NextTurn, None, Option, Program, Reply, Reports, Seen, Setting, Some, Stage, TimedTurn, Timekeeper, World, after_turn, ap, arith, drop, due_first, due_turn, false, is_some, length, length-append, moment_after, moment_in, next_due, next_turns, opening_moment, opening_world, played-after, refl, subst, suc, sym, take, timed_room, timed_turns, true, turn_due, turn_in, turn_in_time, turns_by, turns_done, turns_from, turns_in_time, turns_left, world_of, zero, ℕ, [], ◌++◌, ◌+◌, ◌-◌, ◌<◌, ◌^◌, ◌∙◌, ◌∷◌, ◌≡◌}
 use Rattle.lot_playback.proofs.FollowFacts.{all-done, one-next}
 use Rattle.lot_playback.specs.declared.turn.Turn.{Turn as ATurn}

@@ -1,4 +1,4 @@
--- What threads are due, and how long they wait to run, turn by turn.
+-- The parts due to threads, and their waits to run, turn by turn.
 use Rattle.lot_playback.proofs.Common.{Answered, Answers, AreDue, AreFew, AreOwed, AreReadyFor, AreWaiting, Asleep, Bool, Dead, DueTable, Event, HasFew, HaveQueued, HaveQueuedOne, HaveValues, IsDispatch, IsOwed, IsReadyFor, IsSound, List, None, NoneWaitsBeyond, Option, Owing, Queued, Ready, Receiving, Record, Reply, Running, Served, Sharers, Some, Spans, State, Status, Threads, TimedTurn, TurnAnswer, Waiting, ap, arith, cases_eq, cases_lt, count_in, div-le_self, due_after, due_from, due_to, eq-eqb, false, fold_push, forgotten, get_or-set_at, get_or-set_other, get_or_default, if◌then◌else◌, inl, inr, is_ready, is_some, length, length-set, makes, makes_one, moved_thread, mul-add, mul-div-le, mul-le-mul_right, ne_eqb, no_spans, numbered, option_any, part_in, parts_before, queued, rate_in, ready_after, ready_in, refl, set, shared_ticks, slice_index_or, some-injective, span_begun, span_ended, state_after, status_of, subst, sym, tick_parts, time_after, time_from, time_shared, true, value_in, waits_before, whole_in, ℕ, [], ◌*◌, ◌++◌, ◌+◌, ◌-◌, ◌/◌, ◌<◌, ◌==◌, ◌^◌, ◌∙◌, ◌∷◌, ◌≡◌, ◌≢◌, ◌≤◌, ◌⊎◌}
 use Rattle.lot_playback.proofs.DispatchFacts.{none-made, status-kept, value-kept, whole-kept}
 use Rattle.lot_playback.proofs.MadeCurrencies.{count-grows}

@@ -1,4 +1,4 @@
--- What a turn makes: no thread and no currency goes out of count, and the reply tells each new currency.
+-- The new threads and currencies of a turn: no count falls, and the reply tells each new currency.
 use Rattle.lot_playback.proofs.Common.{Answered, Answers, By, Command, Console, Currencies, DropCurrency, Event, Keeps, List, MakeCurrency, NewCurrency, None, Option, Refusal, RemoveCurrency, Reply, Sharers, Some, State, Step, Threads, ap, arith, by_event, command_effect, command_refusal, command_step, count_in, currency_or_base, eq-eqb, free_currencies, kept, length, length-append, length-set, makes_currency, next_place, placed, refl, step, step-grown, step-leads, true, unless_refused, ℕ, [], ◌+◌, ◌<◌, ◌==◌, ◌∙◌, ◌∷◌, ◌≡◌, ◌≤◌}
 use Rattle.lot_machine.specs.declared.event.Event.TheVariants as event
 

@@ -1,4 +1,4 @@
--- A system at a place of its schedule.
+-- A system at an index of its schedule.
 use Rattle.lot_playback.proofs.Common.{All, All-head, All-tail, HasPlayed, IsAtPlace, IsNext, IsPlayed, IsProgram, List, MadeTurn, MakesTurn, NextTurn, None, Option, Program, Reports, Seen, Setting, Stage, World, ap, arith, counted_turn, drop, get_or, length, length-take, opening_world, played-more, refl, scheduled_turn, scheduled_turns, subst, suc, sym, take, turn_in, turns_by, turns_left, turns_made, world_of, zero, ℕ, [], ◌++◌, ◌+◌, ◌<◌, ◌∙◌, ◌∷◌, ◌≡◌, ◌≤◌}
 use Rattle.lot_playback.specs.declared.turn.Turn.{Turn as ATurn}
 use Rattle.lot_playback.proofs.MadeFacts.{made-more}

@@ -1,6 +1,6 @@
--- What an answer changes of who waits for a mutex.
+-- The change by an answer of the threads that wait for a mutex.
 use Rattle.lot_playback.proofs.Common.{Answered, Event, Reply, change_by, is_locking, mutex_wait, refl, ◌≡◌}
-use Rattle.lot_machine.specs.declared.action.Action.TheVariants as action
+use Rattle.lot_machine.specs.declared.trap.Trap.TheVariants as action
 use Rattle.lot_machine.specs.declared.event.Event.TheVariants as event
 
 -- it depends on the event in nothing but whether that is a lock

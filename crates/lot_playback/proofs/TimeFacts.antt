@@ -1,4 +1,4 @@
--- Whose turn is next in time.
+-- The actor whose turn is next in time.
 use Rattle.lot_playback.proofs.Common.{Bool, Clock, Due, HaveIdled, List, Moment, None, Option, Some, State, ap, append-nil, append_assoc, arith, at_number-suc, clock_after_console, clock_of, clocks_after_console, cost_of, drop, earliest, false, flat_map, get_or, is_none, le-leb, leb-false, leb-true, length, map, nat_le, option_map, processor_due, processor_event, range_with_len, refl, replicate, set, slice_get, sooner, sooner_of, subst, suc, sym, take, thread_on, true, unwrap_or, within, woken, zero, ℕ, [], ◌*◌, ◌++◌, ◌+◌, ◌<◌, ◌||◌, ◌∙◌, ◌∷◌, ◌≡◌, ◌≤◌}
 
 -- ---- lists of the numbers of a range

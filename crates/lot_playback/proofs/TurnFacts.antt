@@ -1,4 +1,4 @@
--- Where a program's turns are cut.
+-- A program's turns, split at one of them.
 use Rattle.lot_playback.proofs.Common.{List, Moment, Program, TimedTurn, World, drop, moment_after, moment_after_all, refl, scheduled_turns, suc, system_after, system_turn, take, turns_in_time, zero, ℕ, [], ◌∷◌, ◌≡◌}
 
 -- the turns of a schedule from a place on

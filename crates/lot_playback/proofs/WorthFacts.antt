@@ -1,5 +1,5 @@
--- Reached states are sound: so no thread and no currency is worth more than the whole, and what doesn't exist is worth
--- nothing.
+-- Reached states are sound: no thread and no currency is worth more than the total value, and one that doesn't exist is
+-- worth 0.
 use Rattle.lot_playback.proofs.Common.{Bool, Currencies, Funding, IsSound, IsWithinBounds, List, None, Option, Program, Record, Sharers, Some, State, Threads, Ticket, ap, arith, at_number, at_number-suc, cond, count_in, currency-bounded, false, filter, filter_map, funding_of, get_or, get_or-le-sum_by, get_or-range_with_len, if◌then◌else◌, inl, inr, is_currency, is_currency-is, is_live, is_live_status, is_some, length, length-map, length-range_with_len, live_of, live_part, live_value, numbers, option_any, option_flatten, order-sound, refl, run-in-order, slice_get, slice_get_cases, suc, sum-filter, sum_by, sym, system_run, target-of, ticket_in, ticket_in-suc, true, value_in, value_of, whole_in, worth_of, zero, ℕ, [], ◌-◌, ◌<◌, ◌^◌, ◌∙◌, ◌∷◌, ◌≡◌, ◌≤◌, ◌⊎◌}
 
 -- ---- reached states

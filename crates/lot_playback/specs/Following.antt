@@ -28,8 +28,8 @@ pub record IsOpened (program : Program) (seen : Seen) (timekeeper : Timekeeper) 
   pub followed : HasFollowed [] 0 timekeeper
   pub dues : HasDues (opening program.limits) [] 0 (opening program.limits) timekeeper
 
--- what a timekeeper is told of a turn: the system after it, its time and actor, its event and reply, and the thread
--- that goes to sleep with it, if one does
+-- a turn as a timekeeper hears of it: the system after it, its time and actor, its event and reply, and the thread that
+-- goes to sleep in it, if one does
 pub record ToldTurn : Type 0 where
   pub seen : Seen
   pub time : ℕ
@@ -38,14 +38,14 @@ pub record ToldTurn : Type 0 where
   pub reply : Reply
   pub sleeper : Option Sleeper
 
--- the turn has the time, the event, the reply and the system that were told
+-- the turn has this time, event, reply and system
 pub record IsTold (told : ToldTurn) (turn : TimedTurn) : Type 0 where
   pub time : turn.time ≡ told.time
   pub answer : turn.turn.answer ≡ Answered told.event told.reply
   pub world : turn.turn.world ≡ world_of told.seen
 
 -- The dues are those of these turns, the first of which was made in the first state, and which led to the other. There
--- the event has the reply that was told, and the search has found what is above the thread that ran.
+-- the event has this reply, and the search has found the currencies above the thread that ran.
 pub record HasDuesBefore (told : ToldTurn) (first before : State) (done : List TimedTurn) (n : ℕ) (timekeeper : Timekeeper) : Type 0 where
   pub few : n < 2 ^ 24
   pub dues : HasDues first done n before timekeeper
@@ -66,16 +66,16 @@ pub record CanFollowTurn (told : ToldTurn) (timekeeper : Timekeeper) : Type 0 wh
   pub followed : (done : List TimedTurn) × (n : ℕ) × (n < 2 ^ 31) × HasFollowed done n timekeeper
   pub dues : (first before : State) × (done : List TimedTurn) × (n : ℕ) × HasDuesBefore told first before done n timekeeper
 
--- the timekeeper has followed this turn: its moment is the one after it, and its records are those of one turn more
+-- the timekeeper has followed this turn: its moment is the one after it, and its records include it
 pub record FollowsTurn (told : ToldTurn) (old new : Timekeeper) : Type 0 where
-  -- the moment is the one after the turn: its time, its clocks, its alarms, and whether something was refused
+  -- the moment is the one after the turn: its time, its clocks, its alarms, and whether a refusal came
   pub time : new.clocks.time ≡ told.time
   pub clocks : new.clocks.processors.items ≡ clocks_after (world_of told.seen).state old.clocks.processors.items (record { time = told.time; actor = told.actor }) (is_idle_draw (Answered told.event told.reply))
   pub alarms : (m : Moment) → m.alarms ≡ alarms_in old.alarms.threads.items → length m.clocks ≡ length old.clocks.processors.items
       → (0 < told.actor → told.actor ≤ length old.clocks.processors.items → told.sleeper ≡ sleeper_on m.world told.actor)
       → alarms_in new.alarms.threads.items ≡ alarms_after m told.time told.actor
   pub refused : new.has_refused ≡ (old.has_refused || is_refusal (Answered told.event told.reply))
-  -- the alarms stay in order, and the tables keep their room
+  -- the alarms stay in order, and the tables keep their sizes
   pub sleeping : AreAlarms (vec_len old.clocks.processors) new.alarms
   pub room : (program : Program) → HasRoomFor program old → HasRoomFor program new
   -- the records of any turns become those of these turns and this one

@@ -1,6 +1,6 @@
 -- Timed turns of a system.
 use Rattle.std.specs.Prelude.{◌≡◌, ℕ, ◌+◌, ◌-◌, ◌<◌, ◌≤◌, ◌*◌, ◌^◌, ◌==◌, nat_le, Bool, true, false, Option, Some, None, List, [], ◌∷◌, ◌++◌, length, map, take, drop, slice_index, slice_index_or, All, if◌then◌else◌}
-use Rattle.lot_machine.specs.declared.action.Action.TheVariants as action
+use Rattle.lot_machine.specs.declared.trap.Trap.TheVariants as action
 use Rattle.lot_machine.specs.declared.event.Event.{Event}
 use Rattle.lot_machine.specs.declared.event.Event.TheVariants as event
 use Rattle.lot_machine.specs.declared.reply.Outcome.TheVariants as outcome
@@ -14,7 +14,7 @@ use Rattle.lot_machine.specs.Numbered.{at_number, numbers}
 use Rattle.lot_machine.specs.State.{State, opening}
 use Rattle.lot_simulation.specs.declared.timed.Due.{Due}
 use Rattle.lot_simulation.specs.declared.timed.Sleeper.{Sleeper}
-use Rattle.lot_simulation.specs.declared.script.ScriptTrap.{ScriptTrap}
+use Rattle.lot_machine.specs.Actions.{ScriptTrap}
 use Rattle.lot_simulation.specs.declared.timed.SpanChange.{SpanChange}
 use Rattle.lot_simulation.specs.declared.timed.SpanChange.TheVariants.{Nobody, Anew, Begins, Ends}
 use Rattle.lot_simulation.specs.declared.timed.Spans.{Spans}
@@ -32,17 +32,17 @@ use Rattle.lot_playback.specs.declared.sharers.Sharers.TheVariants.{Threads}
 use Rattle.lot_playback.specs.Owed.{AreDue, AreReadyFor}
 use Rattle.lot_playback.specs.TicksBelow.{AreCurrencies}
 
--- the moment of a system at this time, with these clocks and alarms, and with nothing refused so far
+-- the moment of a system at this time, with these clocks and alarms, and without a refusal so far
 abbrev pub moment_of : Seen → ℕ → List Clock → (ℕ → Option ℕ) → Moment
 moment_of seen time clocks alarms = record { world = world_of seen; time = time; clocks = clocks; times = drop (commands_made seen) seen.setting.program.times; alarms = alarms; has_refused = false }
 
 -- ---- alarms
 
--- the alarms in a table, which starts with thread 1
+-- the alarms in a table, from thread 1
 abbrev pub alarms_in : List (Option ℕ) → ℕ → Option ℕ
 alarms_in threads t = option_flatten (at_number threads t)
 
--- the timer's turn for a thread, if that sleeps, after this many processors
+-- the timer's turn for a thread, if the thread sleeps, after this many processors
 abbrev pub alarm_at : ℕ → (ℕ → Option ℕ) → ℕ → List Due
 alarm_at processors alarms t = option_map_or (λ time. record { time = time; actor = processors + t } ∷ []) (alarms t) []
 
@@ -61,18 +61,18 @@ pub record AreAlarms (processors : ℕ) (alarms : Alarms) : Type 0 where
 abbrev pub IsNextAlarm : Program → Seen → Alarms → Type 0
 IsNextAlarm program seen alarms = alarms.next ≡ earliest (flat_map (alarm_due program (alarms_in alarms.threads.items)) (numbers (world_of seen).state.records))
 
--- the threads that a turn of the actor lets sleep and wakes are among this many
+-- the threads that go to sleep or wake in a turn of the actor are among this many
 pub record CanFollow (actor processors threads : ℕ) (sleeper : Option Sleeper) : Type 0 where
   pub sleeps : 0 < actor → actor ≤ processors → IfSome sleeper (λ s. IsBetween 1 threads s.thread)
   pub wakes : processors < actor → actor ≤ processors + threads
 
--- the earlier of two turns, if there are any, or the first of them if both have one time
+-- the earlier of two turns, or the first if both have one time; none if there is neither
 abbrev pub sooner_of : Option Due → Option Due → Option Due
 sooner_of None other = other
 sooner_of (Some due) None = Some due
 sooner_of (Some due) (Some other) = if nat_le due.time other.time then Some due else Some other
 
--- each processor's idle time is within the range of so many turns
+-- each processor's idle time is within the range of this many turns
 abbrev pub HaveIdled : ℕ → List Clock → Type 0
 HaveIdled turns clocks = All (λ clock. clock.idle ≤ turns * 2 ^ 32) clocks
 
@@ -91,7 +91,7 @@ abbrev pub is_locking : Event → Bool
 is_locking (event.Trap p ran (action.Lock mutex)) = true
 is_locking other = false
 
--- the change that a reply makes to the threads that wait for a mutex, given whether its event is a lock
+-- the change of waits for mutexes by a reply, given whether its event is a lock
 abbrev pub change_by : Bool → Reply → SpanChange
 change_by locks (reply.Thread thread) = Anew thread
 change_by locks (reply.Funded ticket thread) = Anew thread
@@ -105,7 +105,7 @@ pub record IsSpans (change : TurnMade → SpanChange) (done : List TimedTurn) (n
   pub count : spans.count ≤ n
   pub total : spans.total ≤ n * 2 ^ 32
 
--- each thread's spans in these turns, starting with thread 1
+-- each thread's spans in these turns, from thread 1
 abbrev pub AreSpans : (TurnMade → SpanChange) → List TimedTurn → ℕ → List Spans → Type 0
 AreSpans change done n spans = (place : ℕ) (d : Spans) → place < length spans → IsSpans change done n (place + 1) (slice_index_or spans place d)
 
@@ -123,7 +123,7 @@ pub record IsRefusedTraps (done : List TimedTurn) (n t count : ℕ) : Type 0 whe
   pub exact : count ≡ refused_traps_in done t
   pub few : count ≤ n
 
--- each thread's count of refused traps in these turns, starting with thread 1
+-- each thread's count of refused traps in these turns, from thread 1
 abbrev pub AreRefusedTraps : List TimedTurn → ℕ → List ℕ → Type 0
 AreRefusedTraps done n counts = (place : ℕ) → place < length counts → IsRefusedTraps done n (place + 1) (slice_index counts place)
 
@@ -132,7 +132,7 @@ pub record HaveCounted (answer : TurnAnswer) (old new : List ℕ) : Type 0 where
   pub count : length new ≡ length old
   pub each : (place : ℕ) → place < length old → slice_index new place ≡ refusals_after (place + 1) (slice_index old place) answer
 
--- each thread's count is unchanged, except that of this one, which is changed so
+-- each thread's count is unchanged, except for this change of one thread's
 pub record HaveChanged (change : ℕ → ℕ) (thread : ℕ) (old new : List ℕ) : Type 0 where
   pub count : length new ≡ length old
   pub each : (place : ℕ) → place < length old → slice_index new place ≡ (if thread == place + 1 then change (slice_index old place) else slice_index old place)
@@ -148,8 +148,8 @@ pub record HasFollowed (done : List TimedTurn) (n : ℕ) (timekeeper : Timekeepe
   pub refused : timekeeper.refused ≡ total_of refusals_in (actor_turns done)
   pub few : timekeeper.refused ≤ n
 
--- How long threads waited to run, what threads and currencies are due, and the ticks of the threads below currencies are
--- those of these turns, the first of which was made in the first state, and which led to the other.
+-- The waits to run, the parts due to threads and currencies, and the ticks of the threads below currencies are those of
+-- these turns, the first of which was made in the first state, and which led to the other.
 pub record HasDues (first : State) (done : List TimedTurn) (n : ℕ) (s : State) (timekeeper : Timekeeper) : Type 0 where
   pub ready : AreReadyFor done n s timekeeper.ready.threads.items
   pub dues : AreDue Threads first done n s timekeeper.dues
@@ -187,7 +187,7 @@ next_turns program seen = take 1 (drop (length seen.history) (timed_turns progra
 abbrev pub due_turn : Seen → Due → TimedTurn
 due_turn seen due = record { time = due.time; actor = due.actor; turn = turn_in seen due.actor }
 
--- The system has made timed turns of the program and no others, and the records are those of these turns.
+-- the system has made timed turns of the program and no others, and the records are those of these turns
 pub record IsFollowed (program : Program) (seen : Seen) (timekeeper : Timekeeper) : Type 0 where
   pub program_is : seen.setting.program ≡ program
   pub room_is : seen.setting.room ≡ timed_room
@@ -203,7 +203,7 @@ pub record IsFollowed (program : Program) (seen : Seen) (timekeeper : Timekeeper
   pub followed : HasFollowed (turns_done program seen) (length seen.history) timekeeper
   pub dues : HasDues (opening program.limits) (turns_done program seen) (length seen.history) (world_of seen).state timekeeper
 
--- this is the next turn, no later than the program's end, and there is room for it
+-- this is the next turn, no later than the program's end and within the limit on turns
 pub record IsDue (program : Program) (seen : Seen) (timekeeper : Timekeeper) (due : Due) : Type 0 where
   pub room : length seen.history < seen.setting.room
   pub first : next_due program (moment_in seen timekeeper) ≡ Some due

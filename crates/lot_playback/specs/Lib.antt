@@ -8,9 +8,9 @@ pub mod InTime
 pub mod Following
 -- The next turn of a play.
 pub mod Orders
--- Those who share the time by their values: the threads, or the currencies.
+-- The sharers of time, by their values: the threads, or the currencies.
 pub mod Sharing
--- The tables of threads' waits to run, and of what threads and currencies are due.
+-- The tables of threads' waits to run, and of the parts due to threads and currencies.
 pub mod Owed
 -- The ticks of the threads below currencies, turn by turn.
 pub mod TicksBelow

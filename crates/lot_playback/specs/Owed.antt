@@ -1,4 +1,4 @@
--- The tables of threads' waits to run, and of what threads and currencies are due, turn by turn.
+-- The tables of threads' waits to run, and of the parts due to threads and currencies, turn by turn.
 use Rattle.std.specs.Prelude.{◌≡◌, ◌⊎◌, ℕ, ◌+◌, ◌-◌, ◌*◌, ◌^◌, ◌<◌, ◌≤◌, ◌==◌, Bool, false, Option, Some, None, is_some, List, [], ◌∷◌, length, slice_index_or, if◌then◌else◌}
 use Rattle.lot_machine.specs.declared.event.Event.{Event}
 use Rattle.lot_machine.specs.declared.event.Event.TheVariants as event
@@ -18,7 +18,7 @@ use Rattle.lot_playback.specs.declared.sharers.Sharers.{Sharers}
 use Rattle.lot_playback.specs.Sharing.{due_to, makes_one, time_shared, value_in, whole_in}
 use Rattle.lot_simulation.specs.TimedReport.{makes, queued, ready_in}
 
--- the event is answered so in this state, and leads to the other
+-- in this state the event gets this reply, and leads to the other state
 abbrev pub Answers : State → Event → Reply → State → Type 0
 Answers s e r after = step s e ≡ record { state = after; reply = r }
 
@@ -56,7 +56,7 @@ is_ready_in s t = option_any is_ready (status_of s.records t)
 abbrev pub AreWaiting : State → List Spans → Type 0
 AreWaiting s waits = (place : ℕ) (d : Spans) → place < length waits → is_some (slice_index_or waits place d).since ≡ is_ready_in s (place + 1)
 
--- nobody beyond so many threads waits to run
+-- no thread beyond this many waits to run
 abbrev pub NoneWaitsBeyond : ℕ → List Spans → Type 0
 NoneWaitsBeyond count waits = (place : ℕ) (d : Spans) → count ≤ place → place < length waits → is_some (slice_index_or waits place d).since ≡ false
 
@@ -73,7 +73,7 @@ pub record HaveQueued (time : ℕ) (answer : TurnAnswer) (s : State) (old new : 
 abbrev pub HasFew : List Spans → ℕ → Type 0
 HasFew waits t = (d : Spans) → 1 ≤ t → t ≤ length waits → ((slice_index_or waits (t - 1) d).count < 2 ^ 31) × ((slice_index_or waits (t - 1) d).total < 2 ^ 63)
 
--- The waits of this thread, if it has a place, are those after a turn at this time that led to this state. The others
+-- The waits of this thread, if the table has it, are those after a turn at this time that led to this state. The others
 -- are unchanged.
 pub record HaveQueuedOne (time : ℕ) (s : State) (t : ℕ) (old new : List Spans) : Type 0 where
   pub count : length new ≡ length old
@@ -85,36 +85,37 @@ pub record IsReadyFor (done : List TimedTurn) (n t : ℕ) (waits : Spans) : Type
   pub count : waits.count ≤ n
   pub total : waits.total ≤ n * 2 ^ 32
 
--- each thread's waits to run in these turns, which led to this state, starting with thread 1
+-- each thread's waits to run in these turns, which led to this state, from thread 1
 pub record AreReadyFor (done : List TimedTurn) (n : ℕ) (s : State) (waits : List Spans) : Type 0 where
   pub each : (place : ℕ) (d : Spans) → place < length waits → IsReadyFor done n (place + 1) (slice_index_or waits place d)
   pub now : AreWaiting s waits
 
--- ---- what threads and currencies are due
+-- ---- parts due to threads and currencies
 
--- these parts are due, when each base unit of value has been due so many
+-- these parts are due to the entry when the parts due per base unit have reached the rate
 pub record IsOwed (rate parts : ℕ) (due : Owing) : Type 0 where
   pub since : due.since ≤ rate
   pub exact : due.parts + due.value * (rate - due.since) ≡ parts
   pub few : parts < 2 ^ 122
 
--- each of them is due these parts, when each base unit of value has been due so many
+-- these parts are due to each entry when the parts due per base unit have reached this rate
 abbrev pub AreOwed : ℕ → (ℕ → ℕ) → List Owing → Type 0
 AreOwed rate parts dues = (place : ℕ) (d : Owing) → place < length dues → IsOwed rate (parts (place + 1)) (slice_index_or dues place d)
 
--- each of them has this value
+-- each entry has this value
 abbrev pub HaveValues : (ℕ → ℕ) → List Owing → Type 0
 HaveValues values dues = (place : ℕ) (d : Owing) → place < length dues → (slice_index_or dues place d).value ≡ values (place + 1)
 
--- the parts that are due once the one with this number is due nothing
+-- the parts due after a reset of this number
 abbrev pub forgotten : ℕ → (ℕ → ℕ) → ℕ → ℕ
 forgotten number parts n = if number == n then 0 else parts n
 
--- the parts that are due before a turn with this answer: one that it makes is due nothing
+-- the parts due before a turn with this answer: none to a sharer that it makes
 abbrev pub parts_before : Sharers → TurnAnswer → (ℕ → ℕ) → ℕ → ℕ
 parts_before sharers answer parts n = if makes_one sharers n answer then 0 else parts n
 
--- a place in the table after these turns, the first of which was made in the opening state, and which led to this state
+-- an entry of the table after these turns, the first of which was made in the opening state, and which led to this
+-- state
 pub record IsDueOne (sharers : Sharers) (opening : State) (done : List TimedTurn) (n : ℕ) (s : State) (rate number : ℕ) (due : Owing) : Type 0 where
   pub value : due.value ≡ value_in sharers s number
   pub owed : IsOwed rate (due_to sharers opening done number) due

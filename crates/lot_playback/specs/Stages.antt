@@ -15,7 +15,7 @@ pub record Stage : Type 0 where
   pub seen : Seen
   pub made : ℕ
 
--- the remaining turns
+-- the turns left
 abbrev pub turns_left : Stage → List MadeTurn
 turns_left stage = drop stage.made (program_turns stage.seen.setting.program)
 

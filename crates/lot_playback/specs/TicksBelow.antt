@@ -18,7 +18,7 @@ use Rattle.lot_playback.specs.Owed.{AreDue}
 abbrev pub HasOthersAbove : State → ℕ → FoundNodes → Type 0
 HasOthersAbove s t above = (c : ℕ) → 0 < c → c < length s.currencies → HasFound above c ↔ IsTrue (stands_below s c t)
 
--- if the reply says that a thread ran, that ran on this processor
+-- if the reply says that a thread ran, the thread ran on this processor
 abbrev pub RanOn : State → ℕ → Reply → Type 0
 RanOn s p (reply.Expired t ticks) = (0 < p) × (thread_on s.records p ≡ Some t)
 RanOn s p (reply.Trapped t ticks came ends) = (0 < p) × (thread_on s.records p ≡ Some t)
@@ -32,7 +32,7 @@ HasFoundFor s other above = ⊤
 
 -- ---- the table
 
--- the first so many currencies have these ticks more if the search found them; the others have what they had
+-- each of the first `first` currencies has these ticks more if the search found it; the others are unchanged
 pub record HaveAdded (above : FoundNodes) (ticks first : ℕ) (old new : List ℕ) : Type 0 where
   pub count : length new ≡ length old
   pub found : (place : ℕ) → place < first → place < length old → HasFound above (place + 1) → slice_index new place ≡ slice_index old place + ticks
@@ -41,14 +41,15 @@ pub record HaveAdded (above : FoundNodes) (ticks first : ℕ) (old new : List �
   pub least : (place : ℕ) → place < length old → slice_index old place ≤ slice_index new place
   pub most : (place : ℕ) → place < length old → slice_index new place ≤ slice_index old place + ticks
 
--- each currency of the second state has the ticks of those below it after a turn made in the first, with this answer
+-- each currency of the second state has the ticks of the threads below it after a turn made in the first, with this
+-- answer
 pub record HaveRun (s next : State) (answer : TurnAnswer) (old new : List ℕ) : Type 0 where
   pub count : length new ≡ length old
   pub each : (place : ℕ) → place < length old → place + 1 < length next.currencies → slice_index new place ≡ currency_ticks_after s (place + 1) (slice_index old place) answer
   pub few : (place : ℕ) → place < length old → slice_index new place ≤ slice_index old place + 2 ^ 32
 
--- Each currency's ticks and what it is due, after these turns, the first of which was made in the first state, and which
--- led to the other. The ticks are within the range of n turns.
+-- Each currency's ticks and due parts after these turns, the first of which was made in the first state, and which led
+-- to the other. The ticks are within the range of n turns.
 pub record AreCurrencies (first : State) (done : List TimedTurn) (n : ℕ) (s : State) (table : CurrencyTable) : Type 0 where
   pub ticks : (place : ℕ) → place < length table.ticks.items → place + 1 < length s.currencies → slice_index table.ticks.items place ≡ currency_ticks_in first done (place + 1)
   pub few : (place : ℕ) → place < length table.ticks.items → slice_index table.ticks.items place ≤ n * 2 ^ 32

@@ -19,7 +19,7 @@ pub record MadeTurn : Type 0 where
 abbrev pub scheduled_turn : Program → World → ℕ → MadeTurn
 scheduled_turn program w actor = record { time = None; actor = actor; before = w; turn = system_turn program w actor }
 
--- the turns of these actors, one after another, from this world on
+-- the turns of these actors, in order, from this world on
 abbrev pub scheduled_turns : Program → World → List ℕ → List MadeTurn
 scheduled_turns program w [] = []
 scheduled_turns program w (actor ∷ actors) = scheduled_turn program w actor ∷ scheduled_turns program (system_turn program w actor).world actors
@@ -30,14 +30,14 @@ scheduled_turns program w (actor ∷ actors) = scheduled_turn program w actor �
 abbrev pub turn_in_time : World → TimedTurn → MadeTurn
 turn_in_time w done = record { time = Some done.time; actor = done.actor; before = w; turn = done.turn }
 
--- these timed turns, the first of them made in this world, and each other in the world after the one before
+-- these timed turns in order, the first of them made in this world
 abbrev pub turns_in_time : World → List TimedTurn → List MadeTurn
 turns_in_time w [] = []
 turns_in_time w (done ∷ others) = turn_in_time w done ∷ turns_in_time done.turn.world others
 
 -- ---- the program's turns
 
--- timed turns if the program has a duration, and otherwise those of its schedule
+-- timed turns if the program has a duration, otherwise those of its schedule
 abbrev pub turns_by : Program → Option ℕ → List MadeTurn
 turns_by program None = scheduled_turns program (opening_world program) program.schedule
 turns_by program (Some duration) = turns_in_time (opening_world program) (timed_turns program)
@@ -51,7 +51,7 @@ abbrev pub world_after_turns : World → List MadeTurn → World
 world_after_turns w [] = w
 world_after_turns w (made ∷ others) = world_after_turns made.turn.world others
 
--- an actor's turn as a report counts it; none if no command remained
+-- an actor's turn as a report counts it, or none if no command remained
 abbrev pub counted_turn : ℕ → TurnAnswer → List ActorTurn
 counted_turn actor (Answered e r) = record { actor = actor; answer = Answered e r } ∷ []
 counted_turn actor Ended = []

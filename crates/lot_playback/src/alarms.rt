@@ -11,11 +11,11 @@ use crate::clocks::sooner_of;
 use lot_simulation::{Due, Sleeper};
 use std::alloc::{AllocError, Global};
 
-/// When each sleeping thread wakes, and the timer's next turn. Its memory has a place for each thread; a turn without
-/// a sleep or a wake reads none of them.
+/// The wake times of sleeping threads, and the timer's next turn. The table has an entry for each thread; a turn
+/// without a sleep or a wake reads none of them.
 #[derive(Debug, Drop)]
 pub struct Alarms {
-    /// The time at which each thread wakes, if it sleeps, starting with thread 1.
+    /// The time at which each thread wakes, if it sleeps, from thread 1.
     pub threads: Vec<Option<u64>>,
     /// No thread with a number above this sleeps.
     pub highest: u32,
@@ -24,7 +24,7 @@ pub struct Alarms {
 }
 
 impl Alarms {
-    /// The alarms at the start, when none of this many threads sleeps.
+    /// The alarms at the start of a system with `threads` threads, none of which sleeps.
     pub(crate) fn open(alloc: Global, threads: u32) -> Result<Alarms, AllocError>
         ensures none { IfOk result (λ a. a.threads.items ≡ replicate threads None) }
         ensures highest { IfOk result (λ a. a.highest ≡ 0) }
@@ -38,8 +38,8 @@ impl Alarms {
         })
     }
 
-    /// Records an actor's turn at this time, with which this thread, if any, goes to sleep: it gets an alarm, and the
-    /// timer's turn ends that of its thread.
+    /// Records an actor's turn at this time. The thread that goes to sleep in it, if any, gets an alarm; a turn of the
+    /// timer ends its thread's.
     pub(crate) fn follow(
         &mut self,
         time: u32,
@@ -83,7 +83,7 @@ impl Alarms {
         self.next = self.earliest(processors);
     }
 
-    /// The timer's next turn: that of the thread that wakes first, of several the one with the lowest number.
+    /// The timer's next turn: that of the thread that wakes first, the lowest number if several do.
     fn earliest(&self, processors: u32) -> Option<Due>
         requires highest { self.now.highest ≤ vec_len self.now.threads }
         requires few { (processors ≤ 64) × (vec_len self.now.threads ≤ 4096) }
@@ -98,7 +98,7 @@ impl Alarms {
         first
     }
 
-    /// The timer's turn for the thread, if that sleeps.
+    /// The timer's turn for the thread, if the thread sleeps.
     fn due(&self, processors: u32, thread: u32) -> Option<Due>
         requires there { IsBetween 1 (vec_len self.now.threads) thread }
         requires few { (processors ≤ 64) × (thread ≤ 4096) }

@@ -27,7 +27,7 @@ use std::alloc::{AllocError, Global};
 pub struct Clocks {
     /// The time of the last turn.
     pub time: u32,
-    /// Each processor's clock, starting with processor 1.
+    /// Each processor's clock, from processor 1.
     pub processors: Vec<Clock>,
 }
 
@@ -97,7 +97,6 @@ impl Clocks {
         Some(due_after(clock.time, cost(program, system, processor), processor))
     }
 
-    /// The processor's clock.
     fn clock(&self, processor: u32) -> Clock
         requires { IsBetween 1 (vec_len self.now.processors) processor }
         ensures { result ≡ clock_of self.now.processors.items processor }
@@ -105,8 +104,8 @@ impl Clocks {
         self.processors[processor as usize - 1]
     }
 
-    /// Records this actor's turn at this time, with this reply, which led to this system: its clock afterwards, and the
-    /// other processors' that waited. The console and the timer have no clock.
+    /// Records this actor's turn at this time, with this reply, which led to this system: it sets the actor's clock,
+    /// and ends other processors' waits. The console and the timer have no clock.
     pub(crate) fn follow(&mut self, system: &System, time: u32, actor: u32, reply: Reply)
         requires few { vec_len self.old.processors ≤ 64 }
         requires idled { (turns : ℕ) × (turns < 2 ^ 31) × HaveIdled turns self.old.processors.items }
@@ -137,8 +136,8 @@ impl Clocks {
         self.processors[actor as usize - 1] = Clock { time, waits, idle };
     }
 
-    /// Ends the waits of all processors, and the slices of threads that were killed, since the console made a turn at
-    /// this time, which led to this system.
+    /// Records the console's turn at this time, which led to this system: it ends the waits of all processors, and the
+    /// slices of killed threads.
     fn follow_console(&mut self, system: &System, time: u32)
         requires few { vec_len self.old.processors ≤ 64 }
         requires idled { (turns : ℕ) × (turns < 2 ^ 31) × HaveIdled turns self.old.processors.items }
@@ -155,7 +154,7 @@ impl Clocks {
         }
     }
 
-    /// Ends the waits of all processors, since a turn was made at this time.
+    /// Ends the waits of all processors at this time.
     fn wake(&mut self, time: u32)
         requires idled { (turns : ℕ) × (turns < 2 ^ 31) × HaveIdled turns self.old.processors.items }
         ensures time { self.new.time ≡ self.old.time }
@@ -225,7 +224,7 @@ fn cost_of_slice(slice: &Slice) -> u32
     }
 }
 
-/// Whether nobody runs on the processor.
+/// Whether no thread runs on the processor.
 fn is_idle(system: &System, processor: u32) -> bool
     requires { 0 < processor }
     ensures { result ≡ is_none (thread_on (world_of system.now).state.records processor) }
@@ -245,7 +244,7 @@ fn woken(clock: Clock, time: u32) -> Clock
     }
 }
 
-/// The clock of a processor after a turn of the console at this time, given whether nobody runs there then.
+/// The clock of a processor after a turn of the console at this time, in which the processor is idle or not.
 fn after_console(clock: Clock, is_idle: bool, time: u32) -> Clock
     requires { clock.idle < 2 ^ 63 }
     ensures { result ≡ (if clock.waits || is_idle then timed.idle_to time clock else clock) }
@@ -269,7 +268,7 @@ fn idle_to(clock: Clock, time: u32) -> Clock
     }
 }
 
-/// The earlier of two turns, if there are any, or the first of them if both have one time.
+/// The earlier of two turns, or the first if both have one time; `None` if there is neither.
 pub(crate) fn sooner_of(first: Option<Due>, second: Option<Due>) -> Option<Due>
     ensures { result ≡ in_time.sooner_of first second }
 {

@@ -1,4 +1,4 @@
-//! The ticks of the threads below each currency, and what the currency is due.
+//! The ticks of the threads below each currency, and the parts due to the currency.
 ghost use Rattle.std.specs.Prelude.{◌≡◌, ℕ, ◌+◌, ◌*◌, ◌<◌, ◌≤◌, ◌^◌, [], ◌∷◌, ◌++◌, List, Some, length, slice_index};
 ghost use Rattle.std.specs.Prelude.{◌==◌, IfOk, if◌then◌else◌, vec_len};
 ghost use Rattle.lot_machine.specs.Bounds.{IsBetween, IsWithinBounds};
@@ -21,12 +21,12 @@ use lot_graph::Above;
 use lot_machine::{Event, Reply};
 use std::alloc::{AllocError, Global};
 
-/// What the report tells of the currencies other than base.
+/// The counts of a timed report for the currencies other than base.
 #[derive(Drop)]
 pub struct CurrencyTable {
-    /// The ticks of the threads below each of them, starting with currency 1.
+    /// The ticks of the threads below each of them, from currency 1.
     pub ticks: Vec<u64>,
-    /// What each of them is due.
+    /// The parts due to each of them.
     pub dues: DueTable,
     /// The search for the currencies above the thread that runs.
     pub above: Above,
@@ -61,7 +61,7 @@ impl CurrencyTable {
         self.ticks[currency as usize - 1]
     }
 
-    /// The parts of ticks that the currency with this number is due.
+    /// The parts of a tick due to the currency with this number.
     pub fn due_of(&self, currency: u32) -> u128
         requires there { IsBetween 1 (vec_len self.now.dues.places) currency }
         requires few { (first s : State) × (done : List TimedTurn) × (n : ℕ) × (n < 2 ^ 24)
@@ -115,7 +115,7 @@ impl CurrencyTable {
         self.forget_new(reply);
     }
 
-    /// Adds these ticks to those of the currencies found, among the first so many.
+    /// Adds `ticks` to each currency found among the first `count`.
     fn add(&mut self, count: u32, ticks: u32)
         requires room { vec_len self.old.ticks ≤ self.old.above.layout.currencies }
         requires few { (place : ℕ) → place < length self.old.ticks.items
@@ -133,7 +133,7 @@ impl CurrencyTable {
         }
     }
 
-    /// Makes a new currency's ticks none, if the reply says that one was made, whichever had its number before.
+    /// Sets a new currency's ticks to 0, whichever currency had its number before.
     fn forget_new(&mut self, reply: Reply)
         ensures rest { self.new ≡ record self.old { ticks = self.new.ticks } }
         ensures count { length self.new.ticks.items ≡ length self.old.ticks.items }
@@ -146,7 +146,7 @@ impl CurrencyTable {
         }
     }
 
-    /// Makes the ticks of the currency with this number none.
+    /// Sets the ticks of the currency with this number to 0.
     fn forget(&mut self, currency: u32)
         ensures rest { self.new ≡ record self.old { ticks = self.new.ticks } }
         ensures count { length self.new.ticks.items ≡ length self.old.ticks.items }

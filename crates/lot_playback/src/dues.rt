@@ -1,4 +1,4 @@
-//! What threads and currencies are due: their shares, by value, of the time in which the whole is worth anything.
+//! The dues of threads and currencies: their shares, by value, of the time during which the total value is above 0.
 ghost use Rattle.std.specs.Prelude.{◌≡◌, ℕ, ◌+◌, ◌-◌, ◌*◌, ◌<◌, ◌≤◌, ◌^◌, [], ◌∷◌, ◌++◌, List, length};
 ghost use Rattle.std.specs.Prelude.{slice_index_or, IfOk, IsTrue, ◌↔◌, vec_len};
 ghost use Rattle.lot_machine.specs.Bounds.{IsBetween, IsWithinBounds};
@@ -21,43 +21,43 @@ use lot_machine::{Event, Reply};
 use lot_simulation::TICK_PARTS;
 use std::alloc::{AllocError, Global};
 
-/// What a thread or a currency is due, in parts of a tick.
+/// The parts of a tick due to a thread or a currency.
 #[derive(Clone, Copy, Debug)]
 pub struct Owing {
-    /// Its value since it last changed: 0 for a thread that isn't live.
+    /// Its value since the last change: 0 for a thread that isn't live.
     pub value: u64,
-    /// The parts that each base unit of value had been due when the value last changed.
+    /// The parts due per base unit of value at the last change.
     pub since: u128,
-    /// The parts that it was due then.
+    /// The parts due to it at the last change.
     pub parts: u128,
 }
 
-/// Due nothing, with no value.
+/// No parts due, and no value.
 const NOTHING: Owing = Owing {
     value: 0,
     since: 0,
     parts: 0,
 };
 
-/// What each thread, or each currency, is due.
+/// The parts of a tick due to each thread, or to each currency.
 #[derive(Debug, Drop)]
 pub struct DueTable {
-    /// Who shares the time.
+    /// The kind of sharers: threads or currencies.
     pub sharers: Sharers,
-    /// What each of them is due, starting with number 1.
+    /// The parts due to each, from number 1.
     pub places: Vec<Owing>,
-    /// The value of the whole.
+    /// The total value, which the sharers' values divide.
     pub whole: u128,
-    /// The parts that each base unit of value has been due so far.
+    /// The parts due per base unit of value so far.
     pub rate: u128,
     /// The time of the last turn.
     pub time: u32,
-    /// The ticks in which the whole was worth anything.
+    /// The ticks during which the total value was above 0.
     pub shared_time: u64,
 }
 
 impl DueTable {
-    /// The table of this many sharers, none of which exists yet.
+    /// The table of `count` sharers, none of which exists yet.
     pub(crate) fn open(alloc: Global, sharers: Sharers, count: u32) -> Result<DueTable, AllocError>
         ensures none { (sizes : Sizes) → IsWithinBounds sizes
             → IfOk result (AreDue sharers (opening sizes) [] 0 (opening sizes)) }
@@ -73,7 +73,7 @@ impl DueTable {
         })
     }
 
-    /// The parts of ticks that the thread or the currency with this number is due.
+    /// The parts of a tick due to the thread or the currency with this number.
     pub fn of(&self, number: u32) -> u128
         requires there { IsBetween 1 (vec_len self.now.places) number }
         requires few { (sharers : SharersRecord) × (first s : State) × (done : List TimedTurn) × (n : ℕ) × (n < 2 ^ 24)
@@ -106,7 +106,7 @@ impl DueTable {
         self.forget_new(reply);
     }
 
-    /// Lets time pass up to this: it is shared.
+    /// Advances the time, and shares the ticks passed.
     fn pass(&mut self, time: u32)
         requires few { (sharers : SharersRecord) × (first s : State) × (done : List TimedTurn) × (n : ℕ) × (n < 2 ^ 24)
             × AreDue sharers first done n s self.old }
@@ -128,7 +128,7 @@ impl DueTable {
         self.shared_time += ticks;
     }
 
-    /// Takes over all values in this system.
+    /// Updates all values from this system.
     fn revalue(&mut self, system: &mut System)
         requires owed { (parts : ℕ → ℕ) × AreOwed self.old.rate parts self.old.places.items }
         requires few { (place : ℕ) (d : OwingRecord) → place < length self.old.places.items
@@ -145,7 +145,7 @@ impl DueTable {
     {
         let sharers = self.sharers;
         self.whole = sharers.whole(system);
-        // The others have no value.
+        // Entries beyond the sharers made so far have no value.
         let count = self.places.len().min(sharers.count(system) as usize);
         for place in 0..count {
             let value = sharers.value(system, place as u32 + 1);
@@ -157,7 +157,7 @@ impl DueTable {
         }
     }
 
-    /// Makes a new sharer due nothing, if the reply says that one was made.
+    /// Resets a new sharer's entry, if the reply says that the turn made one.
     fn forget_new(&mut self, reply: Reply)
         ensures rest { self.new ≡ record self.old { places = self.new.places } }
         ensures count { vec_len self.new.places ≡ vec_len self.old.places }
@@ -172,7 +172,7 @@ impl DueTable {
         }
     }
 
-    /// Makes the sharer with this number due nothing, whoever had the number before.
+    /// Resets the entry with this number, whoever had the number before.
     fn forget(&mut self, number: u32)
         ensures rest { self.new ≡ record self.old { places = self.new.places } }
         ensures count { vec_len self.new.places ≡ vec_len self.old.places }
@@ -193,7 +193,7 @@ impl DueTable {
     }
 }
 
-/// The parts that are due when each base unit of value has been due so many.
+/// The parts due to an entry when the parts due per base unit have reached `rate`.
 fn parts_of(due: Owing, rate: u128) -> u128
     requires { (parts : ℕ) × IsOwed rate parts due }
     ensures { (parts : ℕ) → IsOwed rate parts due → result ≡ parts }
@@ -201,7 +201,7 @@ fn parts_of(due: Owing, rate: u128) -> u128
     due.parts + u128::from(due.value) * (rate - due.since)
 }
 
-/// The parts of so many ticks that each base unit is due of a whole that is worth this much.
+/// Parts due per base unit of value after `ticks` ticks, rounded up so that an exact share doesn't read as less.
 pub fn rate_of(whole: u128, ticks: u64) -> u128
     requires { whole < 2 ^ 96 }
     ensures rate { result ≡ reports.rate_in whole ticks }

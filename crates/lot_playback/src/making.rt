@@ -16,7 +16,7 @@ use lot_engine::System;
 use lot_program::Program;
 use lot_simulation::Sleeper;
 
-/// The turn at this place of the schedule, if there is one.
+/// The turn at this index of the schedule, if there is one.
 #[inline(always)]
 pub(crate) fn next_scheduled(program: &Program, system: &System, place: usize) -> Option<NextTurn>
     requires program { system.now.setting.program ≡ program.now }
@@ -56,7 +56,7 @@ pub(crate) fn next_in_time(
     })
 }
 
-/// Makes the turn at this place of the schedule, and stores it in `turn`.
+/// Makes the turn at this index of the schedule, and stores it in `turn`.
 #[inline(always)]
 pub(crate) fn make_scheduled(
     program: &Program,
@@ -79,10 +79,10 @@ pub(crate) fn make_scheduled(
     turn.has_ended = !system.next_turn(next.actor, &mut turn.event, &mut turn.reply, &mut sleeper);
 }
 
-/// Makes the turn that is due by the clocks, and stores it in `turn`. Which currencies are above the thread that runs
-/// is found before its turn, which may change it.
+/// Makes the turn that is due by the clocks, and stores it in `turn`. It finds the currencies above the running thread
+/// first, since the turn may change them.
 ///
-/// It is never compiled into its caller, which is then small enough to be compiled into each loop over turns.
+/// The compiler never inlines it into its caller, which is then small enough to be inlined into each loop over turns.
 #[inline(never)]
 pub(crate) fn make_in_time(
     program: &Program,
@@ -103,7 +103,7 @@ pub(crate) fn make_in_time(
 }
 
 /// Makes the turn that is due by the clocks, stores it in `turn`, and records it in the timekeeper, which has found the
-/// currencies above the thread that runs.
+/// currencies above the running thread.
 #[inline(always)]
 fn make_and_follow(
     system: &mut System,
@@ -130,7 +130,7 @@ fn make_and_follow(
 }
 
 /// Makes the turn of this actor, which is due, and stores its event and reply in `turn`. Returns the thread that goes
-/// to sleep with it, if one does.
+/// to sleep in it, if one does.
 #[inline(always)]
 fn make_due(
     system: &mut System,

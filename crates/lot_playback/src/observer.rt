@@ -9,18 +9,18 @@ use crate::Turn;
 use lot_engine::System;
 use lot_program::Program;
 
-/// Follows a program's turns, one after another, and produces a result from them.
+/// An observer of a program's turns, which produces a result from them.
 pub trait Observer {
-    /// The reason why it stops the play.
+    /// The reason to stop the play.
     type Fault;
 
-    // its state after these turns of the program, given its state before them
+    // the observer's state after these turns of the program, given its state before them
     ghost observed: { ProgramRecord → List MadeTurn → Self → Self → Type 0 };
 
-    // its state after these turns, once it has seen the world in which this actor's turn is next
+    // its state after these turns, once it has seen the world before this actor's turn
     ghost awaits: { ProgramRecord → List MadeTurn → World → ℕ → Self → Self → Type 0 };
 
-    // its state and its fault after it stopped at the last of these turns
+    // its state and its fault after it stopped the play at the last of these turns
     ghost stopped: { ProgramRecord → List MadeTurn → Self → Self → Self.Fault → Type 0 };
 
     /// Sees the system before this actor's turn.

@@ -12,10 +12,9 @@ use lot_program::Program;
 use std::alloc::{AllocError, Global};
 use std::marker::Model;
 
-/// A system that makes the turns of its program: those of the schedule, or, if the program has a duration, timed
-/// turns.
+/// A system that makes the turns of its program: those of the schedule, or timed turns if the program has a duration.
 ///
-/// Contracts see the system, and the number of the program's turns made.
+/// Contracts see the system, and the number of turns made.
 #[derive(Drop)]
 pub struct Playback {
     system: System,
@@ -25,7 +24,7 @@ pub struct Playback {
 /// The order of the turns, and the position in it.
 #[derive(Drop)]
 pub enum Order {
-    /// The next turn is that of the actor at this place of the schedule.
+    /// The next turn is that of the actor at this index of the schedule.
     Scheduled(usize),
     /// The next turn is the first one due by these clocks.
     InTime(Timekeeper),
@@ -44,7 +43,7 @@ impl Model for Playback {
 }
 
 impl Playback {
-    /// The program before its first turn. It allocates all the memory that its turns will ever use, and fails only if
+    /// The program before its first turn. It allocates all the memory that the play will ever use, and fails only if
     /// out of memory.
     pub fn open(alloc: Global, program: &Program) -> Result<Playback, AllocError>
         ensures none { IfOk result (λ playback. playback.made ≡ 0) }
@@ -70,7 +69,6 @@ impl Playback {
         })
     }
 
-    /// A timed program.
     fn open_timed(alloc: Global, program: &Program) -> Result<Playback, AllocError>
         requires { IsSome program.now.duration }
         ensures none { IfOk result (λ playback. playback.made ≡ 0) }
@@ -97,8 +95,8 @@ impl Playback {
         }
     }
 
-    /// Makes the next turn, and stores it in `turn`: a turn's event is large, and no play copies one. It allocates no
-    /// memory.
+    /// Makes the next turn, and stores it in `turn`, since a turn's event is large and a copy would cost. It allocates
+    /// nothing.
     #[inline(always)]
     fn make(&mut self, program: &Program, next: NextTurn, turn: &mut Turn)
         requires program { self.old.seen.setting.program ≡ program.now }
@@ -113,7 +111,7 @@ impl Playback {
         }
     }
 
-    /// Makes the next turn, if there is one. It allocates no memory.
+    /// Makes the next turn, if there is one. It allocates nothing.
     pub fn next(&mut self, program: &Program) -> Option<Turn>
         requires { self.old.seen.setting.program ≡ program.now }
         ensures none { IfNone result ((turns_left self.old ≡ []) × (self.new ≡ self.old)) }
@@ -125,7 +123,8 @@ impl Playback {
         Some(turn)
     }
 
-    /// Makes the next turn, stores it in `turn`, and lets the observer follow it.
+    /// Makes the next turn, stores it in `turn`, and lets the observer follow it. Fails with the observer's fault if it
+    /// stops the play.
     #[inline(always)]
     pub fn play_turn<O: Observer>(
         &mut self,

@@ -1,4 +1,4 @@
-//! Threads' waits to run: the times for which they are Ready.
+//! Threads' waits to run: the spans in which they are Ready.
 ghost use Rattle.std.specs.Prelude.{◌≡◌, ℕ, ◌+◌, ◌<◌, ◌^◌, length, slice_index_or, vec_len, ◌≤◌};
 ghost use Rattle.lot_machine.specs.State.{State, status_of};
 ghost use Rattle.lot_machine.specs.declared.event.Event.{Event as EventRecord};
@@ -39,7 +39,7 @@ impl SpanTable {
         self.queue_all(system, time);
     }
 
-    /// Forgets the waits of the thread that had the number of a new one, if the reply says that one was made.
+    /// Resets the waits of a new thread, if the reply says that the turn made one.
     fn forget_new(&mut self, reply: Reply)
         ensures count { length self.new.threads.items ≡ length self.old.threads.items }
         ensures forgets { (e : EventRecord) (place : ℕ) (d : SpansRecord) → place < length self.old.threads.items
@@ -51,8 +51,8 @@ impl SpanTable {
         }
     }
 
-    /// Records the statuses of all threads after a turn at this time. Places beyond the system's threads stay as they
-    /// are.
+    /// Records the statuses of all threads after a turn at this time. Entries beyond the system's threads stay
+    /// unchanged.
     fn queue_all(&mut self, system: &System, time: u32)
         requires count { vec_len self.old.threads ≤ 4096 }
         requires few { AreFew self.old.threads.items }

@@ -11,15 +11,15 @@ ghost use Rattle.lot_playback.specs.InTime.{AreRefusedTraps, HaveChanged, HaveCo
 use lot_machine::{Outcome, Reply};
 use std::alloc::{AllocError, Global};
 
-/// How many traps of each thread were refused.
+/// The number of refused traps of each thread.
 #[derive(Debug, Drop)]
 pub struct RefusedTraps {
-    /// The number of refused traps of each thread, starting with thread 1.
+    /// The counts, from thread 1.
     pub threads: Vec<u32>,
 }
 
 impl RefusedTraps {
-    /// The counts of this many threads, none of which has made a trap.
+    /// The counts of `threads` threads, all 0.
     pub(crate) fn open(alloc: Global, threads: u32) -> Result<RefusedTraps, AllocError>
         ensures none { IfOk result (λ traps. AreRefusedTraps [] 0 traps.threads.items) }
         ensures count { IfOk result (λ traps. vec_len traps.threads ≡ threads) }
@@ -38,7 +38,8 @@ impl RefusedTraps {
         self.threads[thread as usize - 1]
     }
 
-    /// Records a turn's reply: a refused trap counts, and a new thread has none. It ignores a nonexistent thread.
+    /// Records a turn's reply: it counts a refused trap, and resets the count of a new thread. It ignores a thread
+    /// outside the table.
     pub(crate) fn follow(&mut self, reply: Reply)
         requires few { All (λ count. count < 2 ^ 31) self.old.threads.items }
         ensures counted { (e : EventRecord)
@@ -55,7 +56,7 @@ impl RefusedTraps {
         }
     }
 
-    /// Forgets the refused traps of the thread that had this number before.
+    /// Resets the count of the thread with this number.
     fn forget(&mut self, thread: u32)
         ensures { HaveChanged (λ count. 0) thread self.old.threads.items self.new.threads.items }
     {

@@ -1,4 +1,4 @@
-//! Those who share the time by their values.
+//! The sharers of time, by their values: threads or currencies.
 ghost use Rattle.std.specs.Prelude.{◌≡◌, ◌<◌, ◌^◌, ℕ};
 ghost use Rattle.lot_machine.specs.Bounds.{IsBetween, IsWithinBounds};
 ghost use Rattle.lot_machine.specs.declared.event.Event.{Event as EventRecord};
@@ -12,18 +12,18 @@ use crate::values::live_value;
 use lot_engine::System;
 use lot_machine::Reply;
 
-/// Those who share the time by their values.
+/// The sharers of time, by their values.
 #[derive(Clone, Copy, Debug)]
 pub enum Sharers {
-    /// The threads share the time in which live ones are worth anything.
+    /// The threads, of the time during which live threads have value.
     Threads,
-    /// The currencies other than base share the time in which tickets of base are active. One within another shares it
-    /// too, so their parts may add up to more than all.
+    /// The currencies other than base, of the time during which base tickets are active. A currency inside another
+    /// shares it too, so their parts may add up to more than all.
     Currencies,
 }
 
 impl Sharers {
-    /// How many numbers have been given; base isn't counted.
+    /// The count of numbers given, base not included.
     pub(crate) fn count(self, system: &System) -> u32
         ensures { result ≡ sharing.count_in self (world_of system.now).state }
     {
@@ -33,7 +33,7 @@ impl Sharers {
         }
     }
 
-    /// The value of the whole: of all live threads, or of all active tickets of base.
+    /// The total value: of all live threads, or of all active tickets of base.
     pub(crate) fn whole(self, system: &mut System) -> u128
         ensures whole { result ≡ sharing.whole_in self (world_of system.old).state }
         ensures same { system.new ≡ system.old }
@@ -44,7 +44,7 @@ impl Sharers {
         }
     }
 
-    /// The value of the sharer with this number: of a thread that isn't live, none.
+    /// The value of the sharer with this number: 0 for a thread that isn't live.
     pub(crate) fn value(self, system: &mut System, number: u32) -> u64
         requires { IsBetween 1 (sharing.count_in self (world_of system.old).state) number }
         ensures value { result ≡ sharing.value_in self (world_of system.old).state number }
@@ -56,7 +56,7 @@ impl Sharers {
         }
     }
 
-    /// The number of the sharer that was made, if the reply says so.
+    /// The number of the new sharer, if the reply says that the turn made one.
     pub(crate) fn made(self, reply: Reply) -> Option<u32>
         ensures { (e : EventRecord) (n : ℕ) → sharing.makes_one self n (Answered e reply) ≡ is_number n result }
     {
@@ -67,7 +67,7 @@ impl Sharers {
     }
 }
 
-/// The thread that was made, if the reply says so.
+/// The new thread, if the reply says that the turn made one.
 pub(crate) fn new_thread(reply: Reply) -> Option<u32>
     ensures { (e : EventRecord) (t : ℕ) → reports.makes t (Answered e reply) ≡ is_number t result }
 {
@@ -77,7 +77,7 @@ pub(crate) fn new_thread(reply: Reply) -> Option<u32>
     }
 }
 
-/// The currency that was made, if the reply says so.
+/// The new currency, if the reply says that the turn made one.
 fn new_currency(reply: Reply) -> Option<u32>
     ensures { (e : EventRecord) (c : ℕ) → reports.makes_currency c (Answered e reply) ≡ is_number c result }
 {

@@ -1,10 +1,8 @@
 //! Threads' waits for mutexes and for replies, and their lives.
 ghost use Rattle.std.specs.Prelude.{◌≡◌, ◌<◌, ◌+◌, ◌^◌, ◌++◌, [], ◌∷◌, ℕ, List, IfOk, vec_len};
 ghost use Rattle.lot_machine.specs.Bounds.{IsBetween};
-ghost use Rattle.lot_machine.specs.Named as named;
 ghost use Rattle.lot_simulation.specs.Timed.{TimedTurn};
 ghost use Rattle.lot_simulation.specs.TimedReport as timed;
-ghost use Rattle.lot_engine.specs.Seen.{world_of};
 ghost use Rattle.lot_simulation.specs.World.{TurnMade as WorldTurn};
 ghost use Rattle.lot_simulation.specs.World.TurnAnswer.{Answered};
 ghost use Rattle.lot_simulation.specs.declared.timed.SpanChange.{SpanChange as SpanChangeRecord};
@@ -17,8 +15,7 @@ ghost use Rattle.lot_playback.specs.Owed.{AreReadyFor};
 ghost use Rattle.lot_playback.specs.InTime as in_time;
 ghost use Rattle.lot_playback.specs.InTime.{AreFew, AreSpans, HaveFollowed};
 
-use lot_engine::System;
-use lot_machine::{Action, Command, Event, Outcome, Reply};
+use lot_machine::{Action, Event, Outcome, Reply};
 use lot_simulation::{Span, SpanChange, Spans};
 use std::alloc::{AllocError, Global};
 
@@ -31,15 +28,15 @@ const NO_SPANS: Spans = Spans {
     since: None,
 };
 
-/// Each thread's spans of one kind, starting with thread 1.
+/// Each thread's spans of one kind.
 #[derive(Debug, Drop)]
 pub struct SpanTable {
-    /// The spans of each thread.
+    /// The spans, from thread 1.
     pub threads: Vec<Spans>,
 }
 
 impl SpanTable {
-    /// The table of this many threads, none of which has had a span.
+    /// The table of `threads` threads, none of which has had a span.
     pub(crate) fn open(alloc: Global, threads: u32) -> Result<SpanTable, AllocError>
         ensures none { (kind : WorldTurn → SpanChangeRecord)
             → IfOk result (λ table. AreSpans kind [] 0 table.threads.items) }
@@ -63,7 +60,7 @@ impl SpanTable {
         self.threads[thread as usize - 1]
     }
 
-    /// Records the change that a turn made at this time. It ignores a nonexistent thread.
+    /// Records a change of spans at this time. It ignores a thread outside the table.
     pub(crate) fn follow(&mut self, time: u32, change: SpanChange)
         requires bounded { (kind : WorldTurn → SpanChangeRecord) × (done : List TimedTurn) × (n : ℕ) × (n < 2 ^ 31)
             × AreSpans kind done n self.old.threads.items }
@@ -80,7 +77,7 @@ impl SpanTable {
         }
     }
 
-    /// Forgets the spans of the thread that had this number before.
+    /// Resets the spans of the thread with this number.
     pub(crate) fn forget(&mut self, thread: u32)
         ensures { (time : ℕ) → HaveFollowed time (Anew thread) self.old.threads.items self.new.threads.items }
     {
@@ -117,7 +114,7 @@ impl SpanTable {
     }
 }
 
-/// Two tables of this many threads, none of which has had a span.
+/// Two tables of `threads` threads, none of which has had a span.
 pub(crate) fn open_two(alloc: Global, threads: u32) -> Result<(SpanTable, SpanTable), AllocError>
     ensures none { (kind : WorldTurn → SpanChangeRecord)
         → IfOk result (λ two. AreSpans kind [] 0 two.0.threads.items × AreSpans kind [] 0 two.1.threads.items) }
@@ -151,15 +148,14 @@ pub(crate) fn span_ended(spans: Spans, time: u32) -> Spans
     }
 }
 
-/// The change that a turn with this event and reply makes to the threads that wait for a mutex.
+/// The change of waits for mutexes in a turn with this event and reply.
 pub(crate) fn mutex_wait(event: &Event, reply: Reply) -> SpanChange
     ensures { result ≡ timed.mutex_wait (Answered event.now reply) }
 {
     change_by(is_locking(event), reply)
 }
 
-/// The change that a turn with this reply makes to the threads that wait for a mutex, given whether its event is a
-/// lock.
+/// The change of waits for mutexes in a turn with this reply, given whether its event is a lock.
 fn change_by(locks: bool, reply: Reply) -> SpanChange
     ensures { result ≡ in_time.change_by locks reply }
 {
@@ -202,7 +198,7 @@ fn is_lock(action: Action) -> bool
     matches!(action, Action::Lock(_))
 }
 
-/// The change that a turn with this reply makes to the threads that wait for a reply.
+/// The change of waits for replies in a turn with this reply.
 pub(crate) fn reply_wait(reply: Reply) -> SpanChange
     ensures { (e : EventRecord) → result ≡ timed.reply_wait (Answered e reply) }
 {
@@ -224,9 +220,9 @@ pub(crate) fn reply_wait(reply: Reply) -> SpanChange
     }
 }
 
-/// The change that a turn with this event and reply, which led to this system, makes to lives.
-pub(crate) fn life(system: &System, event: &Event, reply: Reply) -> SpanChange
-    ensures { result ≡ timed.life (world_of system.now).state (Answered event.now reply) }
+/// The change that a turn with this reply makes to lives.
+pub(crate) fn life(reply: Reply) -> SpanChange
+    ensures { (e : EventRecord) → result ≡ timed.life (Answered e reply) }
 {
     match reply {
         Reply::Thread(thread) | Reply::Funded { thread, .. } => SpanChange::Begins(thread),
@@ -235,20 +231,7 @@ pub(crate) fn life(system: &System, event: &Event, reply: Reply) -> SpanChange
             outcome: Outcome::Exited,
             ..
         } => SpanChange::Ends(thread),
-        Reply::Done => match killed_by(system, event) {
-            Some(thread) => SpanChange::Ends(thread),
-            None => SpanChange::Nobody,
-        },
+        Reply::Killed(thread) => SpanChange::Ends(thread),
         _ => SpanChange::Nobody,
-    }
-}
-
-/// The thread that the event killed, if it led to this system.
-fn killed_by(system: &System, event: &Event) -> Option<u32>
-    ensures { result ≡ named.killed_by (world_of system.now).state event.now }
-{
-    match event {
-        Event::Command(Command::Kill { thread }) => system.thread_meant(thread),
-        _ => None,
     }
 }

@@ -1,4 +1,4 @@
-//! The records of a timed play, which its report needs in addition to the system.
+//! The records that a timed play keeps for its report, in addition to the system.
 ghost use Rattle.std.specs.Prelude.{◌≡◌, ◌<◌, ◌≤◌, ◌^◌, [], None, false, IfOk, IfSome, replicate, vec_len};
 ghost use Rattle.lot_machine.specs.Bounds.{IsWithinBounds};
 ghost use Rattle.lot_machine.specs.State.{opening};
@@ -28,14 +28,14 @@ use lot_program::Program;
 use lot_simulation::{Due, Sleeper};
 use std::alloc::{AllocError, Global};
 
-/// The largest number of turns that a timed program makes.
+/// The limit on the turns of a timed program.
 pub const MOST_TURNS: u32 = 16000000;
 
 /// The records that a timed play keeps from turn to turn, in addition to the system.
 pub struct Timekeeper {
     /// The processors' clocks.
     pub clocks: Clocks,
-    /// When each sleeping thread wakes.
+    /// The wake times of sleeping threads.
     pub alarms: Alarms,
     /// Each thread's waits for mutexes.
     pub mutexes: SpanTable,
@@ -45,9 +45,9 @@ pub struct Timekeeper {
     pub lives: SpanTable,
     /// Each thread's waits to run.
     pub ready: SpanTable,
-    /// What each thread is due.
+    /// The parts due to each thread.
     pub dues: DueTable,
-    /// The ticks of the threads below each currency, and what each currency is due.
+    /// The ticks of the threads below each currency, and the parts due to each currency.
     pub currencies: CurrencyTable,
     /// Each thread's refused traps.
     pub refused_traps: RefusedTraps,
@@ -84,7 +84,7 @@ impl Timekeeper {
         ensures legal { IsProgram program.now }
     {
         let limits = program.limits();
-        // They are made in groups: the proof of each `?` then has few of them to drop.
+        // Allocated in groups: the proof of each `?` then has few values to drop.
         let (clocks, alarms) = open_times(alloc, limits.processors, limits.threads)?;
         let (mutexes, replies) = open_two(alloc, limits.threads)?;
         let (lives, ready) = open_two(alloc, limits.threads)?;
@@ -132,15 +132,15 @@ impl Timekeeper {
         self.clocks.following(program, system, &self.alarms)
     }
 
-    /// Whether a refusal has ended the play of the program, as it does if that is strict.
+    /// Whether a refusal has ended the play, as one does in a strict program.
     pub fn is_stopped(&self, program: &Program) -> bool
         ensures { (seen : Seen) → result ≡ timed.is_stopped program.now (moment_in seen self.now) }
     {
-        program.is_strict() && self.has_refused
+        program.options().strict && self.has_refused
     }
 
     /// Records this actor's turn at this time, with its event and reply, which led to this system, and the thread that
-    /// goes to sleep with it, if one does.
+    /// goes to sleep in it, if one does.
     pub(crate) fn follow(
         &mut self,
         system: &mut System,
@@ -176,14 +176,14 @@ impl Timekeeper {
         self.alarms.follow(time, actor, processors, sleeper);
         self.mutexes.follow(time, mutex_wait(event, reply));
         self.replies.follow(time, reply_wait(reply));
-        self.lives.follow(time, life(system, event, reply));
+        self.lives.follow(time, life(reply));
         self.refused_traps.follow(reply);
         self.refused += refusals_in(reply);
         self.has_refused |= is_refusal(event, reply);
     }
 }
 
-/// The clocks at 0, and the alarms of threads none of which sleeps.
+/// Clocks at 0, and the alarms of `threads` threads, none of which sleeps.
 fn open_times(alloc: Global, processors: u32, threads: u32) -> Result<(Clocks, Alarms), AllocError>
     ensures opened { IfOk result (λ opened. (opened.0.time ≡ 0) × (opened.0.processors.items
         ≡ replicate processors (record { time = 0; waits = false; idle = 0 }))
@@ -194,7 +194,7 @@ fn open_times(alloc: Global, processors: u32, threads: u32) -> Result<(Clocks, A
     Ok((clocks, alarms))
 }
 
-/// What threads and currencies are due, and threads' refused traps, before the first turn.
+/// The parts due to threads and currencies, and threads' refused traps, before the first turn.
 fn open_shares(
     alloc: Global,
     system: &System,

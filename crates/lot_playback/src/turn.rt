@@ -6,18 +6,18 @@ use lot_machine::{Event, Reply};
 pub struct NextTurn {
     /// Its time in ticks, if the program is timed.
     pub time: Option<u32>,
-    /// 0 is the console, and 1 to P are the processors. P + t is the timer, as it wakes thread t.
+    /// 0 for the console, 1 to P for the processors, and P + t for the timer when it wakes thread t.
     pub actor: u32,
 }
 
-/// A turn that was made. Its event and reply are large, so a play stores each turn over the one before.
+/// A turn made. Its event and reply are large, so a play overwrites one `Turn` again and again.
 #[derive(Debug, PartialEq, Eq, Drop)]
 pub struct Turn {
     /// Its time in ticks, if the program is timed.
     pub time: Option<u32>,
-    /// 0 is the console, and 1 to P are the processors. P + t is the timer, as it wakes thread t.
+    /// 0 for the console, 1 to P for the processors, and P + t for the timer when it wakes thread t.
     pub actor: u32,
-    /// Whether it is the console's after its last command. Its event and reply are meaningless then.
+    /// Whether it is the console's turn after its last command. Its event and reply are meaningless then.
     pub has_ended: bool,
     /// The actor's event.
     pub event: Event,
@@ -26,7 +26,7 @@ pub struct Turn {
 }
 
 impl Turn {
-    /// A blank turn, to be overwritten.
+    /// A blank turn, to overwrite.
     pub fn blank() -> Turn {
         Turn {
             time: None,

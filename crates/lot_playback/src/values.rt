@@ -5,7 +5,7 @@ ghost use Rattle.lot_engine.specs.Seen.{world_of};
 
 use lot_engine::System;
 
-/// The value of all live threads.
+/// The total value of all live threads.
 pub fn live_value(system: &mut System) -> u128
     ensures value { result ≡ facts.live_value (world_of system.old).state }
     ensures small { result < 2 ^ 96 }

@@ -1,4 +1,4 @@
--- Whose call is taken.
+-- The caller of a taken call.
 use Rattle.lot_ports.proofs.Common.{Contains, List, QueuedCall, Some, ap, contains-at, map, option_map, slice_get, slice_get-map, ◌∙◌, ◌≡◌}
 
 -- the caller of the first call is among the callers

@@ -1,4 +1,4 @@
--- The clients of a server are released, one after another.
+-- The clients of a server, released one after another.
 use Rattle.lot_ports.proofs.Common.{IsStaleIn, IsThere, List, MakesStaleIn, Node, None, Option, QueueLists, Record, Some, Threaded, ap, append-nil, append_assoc, arith, at_number, change_each, change_record, clients_of, drop, each-append, each-between, each-length, first-none, first-some, first_client, inl, inr, length, length-set, makes-each, number-again, number-kept, number-some, refl, released, set_number, sym, unwrap_or, with_records, ℕ, [], ◌++◌, ◌-◌, ◌<◌, ◌∙◌, ◌∷◌, ◌≡◌, ◌≤◌, ◌⊎◌}
 use Rattle.lot_queues.proofs.Callers.{number-set}
 

@@ -1,4 +1,4 @@
--- A reply and then a receipt: what the receipt rests on, and what both make stale.
+-- A reply and then a receipt: the premises of the receipt, and the nodes that both make stale.
 use Rattle.lot_ports.proofs.Common.{Contains, IsLive, IsNowhere, List, MakesStaleIn, None, Option, Port, QueueLists, QueuedCall, Record, Served, Some, Threaded, ap, at_number, at_number-map, callers_at, change_record, clients_of, contains-at, contains-drop, drop, edges-between, first_client, funding_in, inl, inr, is_live_status, live-between, live_in, makes-both-in, makes-last, number-set, number-there, option_map, port_at, receive, refl, reply, set_number, slice_get, subst, suc, sym, unwrap_or, weighed_of, with_ports, with_records, ℕ, [], ◌-◌, ◌∙◌, ◌∷◌, ◌≡◌, ◌⊎◌}
 use Rattle.lot_ports.proofs.Callers.{caller-first}
 

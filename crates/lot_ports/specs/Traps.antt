@@ -10,8 +10,8 @@ use Rattle.lot_threads.specs.Threaded.{Threaded, IsStaleIn, MakesStaleIn, with_r
 abbrev pub with_ports : QueueLists → PortTrap → QueueLists
 with_ports q e = record q { clients = e.clients; ports = e.ports }
 
--- The trap at a port has this effect and leads to these threads and queues; stale nodes stay stale, and new ones are
--- reached from touched nodes.
+-- The trap at a port has this effect and leads to these threads and queues. Stale nodes stay stale, and touched nodes
+-- reach the new ones.
 pub record IsPortTrap (v : Threaded) (q : QueueLists) (trap : PortTrap) (effect : TrapEffect) (new : Threaded) (left : QueueLists) : Type 0 where
   pub outcome : effect.outcome ≡ trap.outcome
   pub after : effect.after ≡ trap.after

@@ -15,7 +15,7 @@ use lot_machine::{After, Outcome, PortNumber, Status, ThreadNumber};
 use lot_queues::Queues;
 use lot_threads::{Threads, TrapEffect};
 
-/// A call to a port: the thread that has waited longest to receive there serves it, or otherwise it is queued.
+/// A call to a port: the thread that has waited longest to receive there serves it, otherwise it is queued.
 pub fn call(
     threads: &mut Threads,
     queues: &mut Queues,
@@ -46,7 +46,7 @@ pub fn call(
     }
 }
 
-/// A receive at a port by a running thread: it takes the call that has waited longest, or otherwise waits there.
+/// A receive at a port by a running thread: it takes the call that has waited longest, otherwise it waits there.
 pub fn receive(
     threads: &mut Threads,
     queues: &mut Queues,

@@ -1,4 +1,4 @@
--- Histories that are printed, read again.
+-- Printed histories, read again.
 use Rattle.lot_print.proofs.Common.{ActorRun, Bool, HasRoom, IsReadAs, IsTrue, List, Reading, actors_of, ap, arith, eqb-true, false, flat_map, flat_map-append, groups_of, history_lines, if◌then◌else◌, length, refl, runs_in, runs_line, runs_lines, schedule_line, schedule_lines, sym, true, ℕ, [], ◌++◌, ◌==◌, ◌||◌, ◌∙◌, ◌∷◌, ◌≡◌, ◌≤◌}
 use Rattle.lot_print.proofs.GroupLemmas.{Each-from_All, IsGroup, groups_of-each, groups_of-joined}
 use Rattle.lot_print.proofs.ReadBack.{Shown-schedule, read-blocks, read-schedule, schedule_line-text, schedule_text}

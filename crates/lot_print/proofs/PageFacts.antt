@@ -1,4 +1,4 @@
--- Lines that wait to be written.
+-- Lines on a page before they are written.
 use Rattle.lot_print.proofs.Common.{Appends, Begins, IsPut, List, Option, ap, append-nil, append_assoc, appends-both, begins-after, begins-front, subst, sym, ℕ, [], ◌++◌, ◌∙◌, ◌≡◌}
 
 -- if nothing waited before, and what waits is written, all is

@@ -1,4 +1,4 @@
--- Words and lines that are printed, read again.
+-- Printed words and lines, read again.
 use Rattle.lot_print.proofs.Common.{AllDigits, Bool, List, Some, Spaces, ap, append-nil, arith, decimal, decimal_digit, decimal_is_IsNumeral, digit_from_value, digits_value, eqb-false, false, filter, first_decimal, flat_map, get_or, is_ascii_digit, is_printable, le-leb, length, lines_of, list_all, lt-ltb, nat_le, nat_lt, ne_eqb, not, number_of, prefix_len, refl, slice_index, slice_split, suc, take, take-append_seam, tokens_of, true, without_end, zero, ℕ, [], ⊤, ◌&&◌, ◌++◌, ◌-◌, ◌<◌, ◌==◌, ◌^◌, ◌||◌, ◌∙◌, ◌∷◌, ◌≡◌, ◌≤◌}
 
 -- bytes that are no space, and print

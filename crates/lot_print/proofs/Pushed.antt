@@ -1,4 +1,4 @@
--- A text of several parts is appended, and then the rest of a line. The answers cite these lemmas, since a tactic that
+-- Appending a text of several parts, and then the rest of a line. The answers cite these lemmas, since a tactic that
 -- joins the parts in the goal itself takes ten times as long.
 use Rattle.std.proofs.Common.{◌≡◌, ℕ, List, ◌++◌, append_assoc}
 

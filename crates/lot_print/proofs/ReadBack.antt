@@ -1,4 +1,4 @@
--- Lines that are printed of a history, read again.
+-- The printed lines of a history, read again.
 use Rattle.lot_print.proofs.Common.{BodyWord, InputRefusal, List, None, Ok, Reading, Result, Some, Spaces, actor_below, actor_text, ap, append-nil, append_assoc, arith, body_after_header, body_place, body_words, codes, decimal, each, false, flat_map, header_words, is_comment, is_printable, le-ltb, length, length-append, length-decimal-le, lines_of, map, read_line, read_lines, refl, schedule_line, suc, tokens_of, true, word_in, ℕ, [], ◌*◌, ◌++◌, ◌+◌, ◌<◌, ◌>>=◌, ◌^◌, ◌∙◌, ◌∷◌, ◌≡◌, ◌≤◌}
 use Rattle.lot_simulation.specs.declared.input.BodyWord.TheVariants as body
 use Rattle.lot_print.proofs.GroupLemmas.{Each, IsGroup}

@@ -1,4 +1,4 @@
--- What is written in parts.
+-- Text written in parts.
 use Rattle.lot_print.proofs.Common.{Appends, Begins, List, Option, ap, append_assoc, appends-both, begins-after, begins-front, subst, sym, ℕ, [], ◌++◌, ◌∙◌, ◌≡◌}
 
 -- a line of a text, a number and what follows

@@ -12,7 +12,7 @@ use Rattle.lot_print.specs.declared.figures.Unit.{Unit}
 use Rattle.lot_print.specs.declared.figures.Unit.TheVariants.{One, PercentThousandth, Thousandth}
 use Rattle.lot_print.specs.declared.figures.SpanFigures.{SpanFigures}
 
--- one of so many parts of a figure
+-- a figure divided by this number
 abbrev pub figure_text : Unit → ℕ → ℕ → List ℕ
 figure_text One figure parts = quotient_text figure parts
 figure_text Thousandth figure parts = quotient_text figure (parts * 1000)
@@ -24,23 +24,23 @@ spread_text what unit spread =
     if spread.plays == 0 then []
     else what ++ (codes " mean " ++ (figure_text unit spread.sum spread.plays ++ (codes " least " ++ (figure_text unit spread.least 1 ++ (codes " most " ++ figure_text unit spread.most 1)))))
 
--- the beginning of a line: what it is about, and its name
+-- the start of a line: its subject, and the subject's name
 abbrev pub subject_text : Subject → ℕ → Figures → List ℕ
 subject_text Thread n figures = codes "thread " ++ (decimal n ++ (codes " " ++ figures.name))
 subject_text Currency n figures = codes "currency " ++ (decimal n ++ (codes " " ++ figures.name))
 
--- a thread's draws, its ticks, or those of the threads below a currency, and their share of all ticks
+-- a thread's draws and ticks, or the ticks of the threads below a currency, and their share of all ticks
 unfoldable pub counts_text : Figures → List ℕ
 counts_text figures =
     spread_text (codes " quanta") One figures.quanta ++ (spread_text (codes " ticks") One figures.ticks
     ++ spread_text (codes " share") PercentThousandth figures.share)
 
--- what the thread or the currency was due, and the thread's share of the live value
+-- the share due to the thread or the currency, and the thread's share of the live value
 unfoldable pub dues_text : Figures → List ℕ
 dues_text figures =
     spread_text (codes " due") PercentThousandth figures.due ++ spread_text (codes " value") PercentThousandth figures.value
 
--- the first line: the number of plays that ended with the thread or the currency, what it had, and what it was due
+-- the first line: the number of plays that ended with the thread or the currency, its counts, and its due share
 unfoldable pub shares_line : Subject → ℕ → Figures → List ℕ
 shares_line subject n figures =
     subject_text subject n figures ++ (codes " plays " ++ (decimal figures.plays
@@ -61,7 +61,8 @@ refused_line subject n figures =
     if figures.refused.most == 0 then []
     else subject_text subject n figures ++ (spread_text (codes " refused") One figures.refused ++ newline)
 
--- the line for lives: when the thread was made, when it ended, and in how many of the plays; nothing if it ended in none
+-- The line for lives: the times at which the thread was made and ended, and the number of plays in which it ended;
+-- nothing if it ended in none.
 unfoldable pub life_line : Subject → ℕ → Figures → List ℕ
 life_line subject n figures =
     if figures.ended.plays == 0 then []
@@ -77,7 +78,7 @@ figures_lines subject n figures =
     ++ (waits_line subject n figures (codes " reply") figures.replies
     ++ (refused_line subject n figures ++ life_line subject n figures))))
 
--- a processor's draws, its idle draws, the ticks used there, and the ticks in which it was idle
+-- a processor's draws, its idle draws, the ticks used there, and its idle ticks
 unfoldable pub processor_counts : ProcessorFigures → List ℕ
 processor_counts figures =
     spread_text (codes " quanta") One figures.quanta ++ (spread_text (codes " idle") One figures.idles
@@ -95,7 +96,7 @@ whole_counts figures =
     ++ (spread_text (codes " ticks") One figures.ticks ++ (spread_text (codes " refused") One figures.refused
     ++ spread_text (codes " left") One figures.left)))
 
--- the threads that have ended, the mean of their lives in a play, and the longest of a play; nothing if none has
+-- the threads that have ended, the mean of their lives in a play, and the longest in a play; nothing if none has
 unfoldable pub lives_line : SpanFigures → List ℕ
 lives_line lives =
     if lives.longest.plays == 0 then []

@@ -1,4 +1,4 @@
--- The text of the funding at a lottery: tickets, and currencies.
+-- Lines that show how tickets and currencies fund a lottery.
 use Rattle.std.specs.Prelude.{ℕ, List, [], ◌++◌, codes, unwrap_or}
 use Rattle.std.specs.Fmt.{decimal}
 use Rattle.lot_machine.specs.declared.row.CurrencyRow.{CurrencyRow}
@@ -8,7 +8,7 @@ use Rattle.lot_machine.specs.declared.ticket.Target.TheVariants.{Unfunded, Curre
 use Rattle.lot_simulation.specs.declared.style.LineStyle.{LineStyle}
 use Rattle.lot_simulation.specs.Texts.{currency_value, front, newline, value_text}
 
--- what a ticket funds, by its number and its name
+-- a ticket's target, by its number and its name
 abbrev pub funded_text : Target → List ℕ → List ℕ
 funded_text Unfunded name = codes "-"
 funded_text (Currency c) name = codes "currency " ++ (decimal c ++ (codes " " ++ name))
@@ -18,13 +18,13 @@ funded_text (Thread t) name = codes "thread " ++ (decimal t ++ (codes " " ++ nam
 abbrev pub ticket_amount_text : ℕ → TicketRow → List ℕ
 ticket_amount_text n row = codes " ticket " ++ (decimal n ++ (codes " amount " ++ (decimal row.amount ++ (codes " of " ++ row.issuer))))
 
--- the line of a ticket: what it funds, and its value, the part of its currency's that its amount has (4.4)
+-- the line of a ticket: its target, and its value, which is its amount's part of its currency's value (4.4)
 abbrev pub ticket_funds_line : LineStyle → ℕ → ℕ → ℕ → TicketRow → List ℕ
 ticket_funds_line style unit actor n row =
     front style ++ (decimal actor ++ (codes " funds " ++ (funded_text row.funds (unwrap_or row.target [])
     ++ (ticket_amount_text n row ++ (codes " value " ++ (value_text style unit row.value ++ newline))))))
 
--- the line of a currency: its value, and the active amount among which it is shared (4.4)
+-- the line of a currency: its value, and the active amount that shares it (4.4)
 abbrev pub currency_funds_line : LineStyle → ℕ → ℕ → ℕ → CurrencyRow → List ℕ
 currency_funds_line style unit actor c row =
     front style ++ (decimal actor ++ (codes " " ++ (codes "currency " ++ (decimal c ++ (codes " " ++ (row.name

@@ -19,12 +19,12 @@ abbrev pub weight_word : Lottery → List ℕ
 weight_word OfProcessor = codes " weight "
 weight_word OfMutex = codes " value "
 
--- a value that is scaled to a whole quantum: the value, the quantum, and the ticks of it that were used (4.5)
+-- a value scaled to a whole quantum: the value, the quantum, and the ticks used (4.5)
 abbrev pub scaled_text : LineStyle → ℕ → Compensation → List ℕ
 scaled_text style unit reason =
     codes " = value " ++ (value_text style unit reason.value ++ (codes " x " ++ (decimal reason.quantum ++ (codes " / " ++ decimal reason.used))))
 
--- why a compensated thread weighs what it does, in timed style
+-- the reason for a compensated thread's weight, in timed style
 abbrev pub why_text : LineStyle → ℕ → Option Compensation → List ℕ
 why_text Whole unit compensation = []
 why_text (Timed time) unit None = []
@@ -35,8 +35,8 @@ abbrev pub mark : Bool → List ℕ
 mark true = codes " wins"
 mark false = []
 
--- The line of a lot, given the winner: its weight, with the reason in timed style, and its numbers, from `first` on,
--- as many as its weight. The weight is printed as in listings, the numbers as in draws.
+-- The line of a lot, given the winner: its weight, with the reason in timed style, and its numbers, as many as its
+-- weight from `first` on. The weight is printed as in listings, the numbers as in draws.
 abbrev pub lot_line : LineStyle → ℕ → ℕ → Lottery → ℕ → ℕ → Lot → List ℕ
 lot_line style unit actor lottery winner first lot =
     front style ++ (decimal actor ++ (part_word lottery ++ (decimal lot.thread ++ (codes " " ++ (lot.name ++ (weight_word lottery ++ (value_text style unit lot.weight

@@ -1,4 +1,4 @@
--- The condition that a history's printed lines are read as that history.
+-- The condition under which the parser reads a history's printed lines as that history.
 use Rattle.std.specs.Prelude.{◌≡◌, ◌+◌, ◌≤◌, ℕ, false, Some, None, Ok, List, ◌++◌, length, All}
 use Rattle.lot_machine.specs.Bounds.{IsUnit}
 use Rattle.lot_simulation.specs.Lines.{lines_of}
@@ -16,8 +16,8 @@ pub record HasRoom (r : Reading) (start : ℕ) (history text : List ℕ) : Type 
   pub schedule_length : length r.schedule + length history ≤ 1000000
   pub input_length : start + length text ≤ 16777216
 
--- The text, whose first line has this number, is read as these further turns in the schedule. Nothing else changes,
--- except that the header has ended.
+-- The parser reads the text, whose first line has this number, as these further turns of the schedule. Nothing else
+-- changes, except that the header has ended.
 abbrev pub IsReadAs : ℕ → ℕ → Reading → List ℕ → List ℕ → Type 0
 IsReadAs n start r text history =
     (after : Reading) × (read_lines n start (Some r) (lines_of text) ≡ Ok (Some after)) × (after ≡ record r { schedule = r.schedule ++ history; place = after.place })

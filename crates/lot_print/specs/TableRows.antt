@@ -1,4 +1,4 @@
--- The rows of a report as a table: fields with commas between them.
+-- The rows of a report as a table: fields separated by commas.
 use Rattle.std.specs.Prelude.{ℕ, ◌*◌, ◌==◌, Option, Some, None, List, [], ◌++◌, codes, if◌then◌else◌}
 use Rattle.std.specs.Fmt.{decimal}
 use Rattle.lot_machine.specs.declared.row.ThreadRow.{ThreadRow}
@@ -23,38 +23,38 @@ unfoldable pub spread_names : List ℕ → List ℕ
 spread_names what =
     codes "," ++ (what ++ (codes "_mean," ++ (what ++ (codes "_least," ++ (what ++ codes "_most")))))
 
--- those of a thread's draws, ticks, and share of all ticks
+-- the names for a thread's draws, ticks, and share of all ticks
 abbrev pub counts_names : List ℕ
 counts_names = spread_names (codes "quanta") ++ (spread_names (codes "ticks") ++ spread_names (codes "share_percent"))
 
--- those of what a thread was due, and of its share of the live value
+-- the names for a thread's due share, and its share of the live value
 abbrev pub dues_names : List ℕ
 dues_names = spread_names (codes "due_percent") ++ spread_names (codes "value_percent")
 
--- those of its waits to run
+-- the names for its waits to run
 abbrev pub ready_names : List ℕ
 ready_names =
     spread_names (codes "ready_waits") ++ (spread_names (codes "ready_mean") ++ spread_names (codes "ready_longest"))
 
--- those of its waits for mutexes
+-- the names for its waits for mutexes
 abbrev pub mutex_names : List ℕ
 mutex_names =
     spread_names (codes "mutex_waits") ++ (spread_names (codes "mutex_mean") ++ spread_names (codes "mutex_longest"))
 
--- those of its waits for replies
+-- the names for its waits for replies
 abbrev pub reply_names : List ℕ
 reply_names =
     spread_names (codes "reply_waits") ++ (spread_names (codes "reply_mean") ++ spread_names (codes "reply_longest"))
 
--- those of its refused traps, and of when it was made and ended
+-- the names for its refused traps, and for the times at which it was made and ended
 abbrev pub life_names : List ℕ
 life_names = spread_names (codes "refused") ++ (spread_names (codes "made") ++ spread_names (codes "ended"))
 
--- those that only the rows of a timed program's threads have
+-- the names that only the table of a timed program's threads has
 abbrev pub timed_names : List ℕ
 timed_names = dues_names ++ (ready_names ++ (mutex_names ++ (reply_names ++ life_names)))
 
--- those of a currency's ticks, their share of all ticks, and what it was due
+-- the names for a currency's ticks, their share of all ticks, and its due share
 abbrev pub currency_names : List ℕ
 currency_names =
     spread_names (codes "ticks") ++ (spread_names (codes "share_percent") ++ spread_names (codes "due_percent"))
@@ -81,7 +81,7 @@ next_field text = codes "," ++ text
 
 -- ---- a report
 
--- a thread's first fields: its number and name, the draws it has won, and the ticks it has used
+-- a thread's first fields: its number and name, the draws won, and the ticks used
 abbrev pub thread_fields : ℕ → ThreadRow → List ℕ
 thread_fields t row =
     decimal t ++ (next_field row.name ++ (next_field (decimal row.quanta) ++ next_field (decimal row.ticks)))
@@ -109,7 +109,7 @@ abbrev pub waits_fields : Spans → List ℕ
 waits_fields waits =
     next_field (decimal waits.count) ++ (next_field (mean_field waits) ++ next_field (longest_field waits))
 
--- when a thread was made, and when it ended, or an empty field if it hasn't
+-- the times at which a thread was made and ended; the second field is empty if it hasn't ended
 abbrev pub life_fields : Spans → List ℕ
 life_fields lives = fields lives.since lives.last
   where
@@ -118,8 +118,9 @@ life_fields lives = fields lives.since lives.last
     fields None (Some life) = next_field (decimal life.from) ++ next_field (decimal life.to)
     fields None None = next_field [] ++ next_field []
 
--- A thread's row in the table of a timed program: also its share of all ticks, what it was due, its share of the live
--- value, its waits to run, for mutexes and for replies, the number of its refused traps, and when it was made and ended.
+-- A thread's row in the table of a timed program: also its share of all ticks, its due share, its share of the live
+-- value, its waits to run, for mutexes and for replies, the number of its refused traps, and the times at which it was
+-- made and ended.
 abbrev pub timed_thread_record : ℕ → ThreadRow → ThreadShares → List ℕ
 timed_thread_record t row shares =
     thread_fields t row ++ (next_field (percent_field row.ticks shares.all_ticks)
@@ -129,7 +130,7 @@ timed_thread_record t row shares =
     ++ (next_field (decimal shares.refused_traps) ++ (life_fields shares.lives ++ newline))))))))
 
 -- a currency's row in the table of a timed program: its number and name, the ticks of the threads below it, their share
--- of all ticks, and what it was due
+-- of all ticks, and its due share
 abbrev pub timed_currency_record : ℕ → List ℕ → CurrencyShares → List ℕ
 timed_currency_record c name shares =
     decimal c ++ (next_field name ++ (next_field (decimal shares.ticks)
@@ -138,7 +139,7 @@ timed_currency_record c name shares =
 
 -- ---- a report over several plays
 
--- one of so many parts of a figure, without a sign
+-- a figure divided by this number, without a sign
 abbrev pub part_field : Unit → ℕ → ℕ → List ℕ
 part_field One figure parts = quotient_text figure parts
 part_field Thousandth figure parts = quotient_text figure (parts * 1000)
@@ -161,15 +162,15 @@ unfoldable pub span_figures_fields : SpanFigures → List ℕ
 span_figures_fields waits =
     spread_fields One waits.count ++ (spread_fields Thousandth waits.mean ++ spread_fields One waits.longest)
 
--- what only the rows of a timed program's threads have: what the thread was due, its share of the live value, its waits
--- to run, for mutexes and for replies, its refused traps, and when it was made and ended
+-- the fields that only a timed program's threads have: the due share, the share of the live value, the waits to run,
+-- for mutexes and for replies, the refused traps, and the times at which the thread was made and ended
 unfoldable pub timed_fields : Figures → List ℕ
 timed_fields figures =
     spread_fields PercentThousandth figures.due ++ (spread_fields PercentThousandth figures.value
     ++ (span_figures_fields figures.ready ++ (span_figures_fields figures.mutexes ++ (span_figures_fields figures.replies
     ++ (spread_fields One figures.refused ++ (spread_fields One figures.made ++ spread_fields One figures.ended))))))
 
--- a currency's ticks, its share of all ticks, and what it was due
+-- a currency's ticks, its share of all ticks, and its due share
 unfoldable pub currency_fields : Figures → List ℕ
 currency_fields figures =
     spread_fields One figures.ticks

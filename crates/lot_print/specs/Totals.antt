@@ -21,7 +21,8 @@ total_line turns quanta ticks =
 
 -- ---- timed reports
 
--- a thread's line: its row, its shares, what it was due, its waits, its refused traps, and when it was made and ended
+-- a thread's line: its row, its shares, its due, its waits, its refused traps, and the times at which it was made and
+-- ended
 abbrev pub timed_thread_line : ℕ → ThreadRow → ThreadShares → List ℕ
 timed_thread_line n row shares =
     codes "thread " ++ (decimal n ++ (codes " " ++ (row.name ++ (codes " quanta " ++ (decimal row.quanta
@@ -32,14 +33,14 @@ timed_thread_line n row shares =
     ++ (waits_text (codes " reply") shares.replies ++ (refused_traps_text shares.refused_traps
     ++ (life_text shares.lives ++ newline))))))))))))))))))
 
--- a currency's line: its name, the ticks of the threads below it, their share of all ticks, and what it was due
+-- a currency's line: its name, the ticks of the threads below it, their share of all ticks, and its due share
 abbrev pub timed_currency_line : ℕ → List ℕ → CurrencyShares → List ℕ
 timed_currency_line c name shares =
     codes "currency " ++ (decimal c ++ (codes " " ++ (name ++ (codes " ticks " ++ (decimal shares.ticks
     ++ (codes " share " ++ (percent_text shares.ticks shares.all_ticks
     ++ (codes " due " ++ (percent_text shares.due (shares.base_time * tick_parts) ++ newline)))))))))
 
--- a processor's line: its won draws, its idle draws, the ticks used there, and the ticks in which it was idle
+-- a processor's line: its won draws, its idle draws, the ticks used there, and its idle ticks
 abbrev pub timed_processor_line : ℕ → ℕ → ℕ → ℕ → ℕ → List ℕ
 timed_processor_line p quanta idles ticks unused =
     codes "processor " ++ (decimal p ++ (codes " quanta " ++ (decimal quanta ++ (codes " idle " ++ (decimal idles ++ (codes " ticks " ++ (decimal ticks

@@ -29,7 +29,7 @@ pub struct Spread {
     pub most: u128,
 }
 
-/// The unit of a figure.
+/// The unit in which a figure is stored.
 #[derive(Clone, Copy)]
 pub enum Unit {
     /// One.
@@ -51,21 +51,21 @@ pub struct SpanFigures {
     pub longest: Spread,
 }
 
-/// The figures of a thread or a currency over several plays. No play has a figure that reports of its kind don't tell:
-/// those from `due` on are told of threads of timed programs alone, and `ticks`, `share` and `due` of currencies.
+/// The figures of a thread or a currency over several plays. Only timed reports have the figures from `due` on, and for
+/// currencies they have `ticks`, `share` and `due` alone. A figure that the reports don't have counts no play.
 #[derive(Drop)]
 pub struct Figures {
     /// The name at the end of the last play that ended with the thread or the currency.
     pub name: Name,
-    /// The number of such plays.
+    /// The number of plays that ended with the thread or the currency.
     pub plays: u64,
-    /// The draws that it won.
+    /// The draws won.
     pub quanta: Spread,
-    /// The ticks that it used, or that the threads below the currency did.
+    /// The ticks of the thread, or of the threads below the currency.
     pub ticks: Spread,
     /// Their share of the ticks of all threads, in thousandths of a percent.
     pub share: Spread,
-    /// What it was due of the time, in thousandths of a percent.
+    /// Its due share of the time, in thousandths of a percent.
     pub due: Spread,
     /// Its share of the live value at the end, in thousandths of a percent.
     pub value: Spread,
@@ -73,11 +73,11 @@ pub struct Figures {
     pub ready: SpanFigures,
     pub mutexes: SpanFigures,
     pub replies: SpanFigures,
-    /// How many of its traps were refused.
+    /// The number of its refused traps.
     pub refused: Spread,
-    /// When it was made.
+    /// The time at which it was made, in ticks.
     pub made: Spread,
-    /// When it ended; a play in which it didn't has no such time.
+    /// The time at which it ended, in ticks; a play in which it didn't end has none.
     pub ended: Spread,
 }
 
@@ -107,7 +107,7 @@ pub struct WholeFigures {
     pub quanta: Spread,
     /// The ticks used.
     pub ticks: Spread,
-    /// The commands refused.
+    /// The refused commands.
     pub refused: Spread,
     /// The commands never made.
     pub left: Spread,
@@ -115,14 +115,15 @@ pub struct WholeFigures {
     pub lives: SpanFigures,
 }
 
-/// What lines are about.
+/// The subject of a report's lines: a thread or a currency.
 #[derive(Clone, Copy)]
 pub enum Subject {
     Thread,
     Currency,
 }
 
-/// Writes the lines of the thread or the currency with this number in a report over several plays.
+/// Writes the lines of the thread or the currency with this number in a report over several plays. Fails with `Write`
+/// if the writer fails.
 pub fn write_figures<W: Write>(
     writer: &mut Watched<W>,
     subject: Subject,
@@ -170,7 +171,7 @@ fn lines_of(subject: Subject, number: u32, figures: &Figures) -> FiguresLines
     lines
 }
 
-/// Appends the first line: the number of plays, and what the thread or the currency had and was due.
+/// Appends the first line: the number of plays, the ticks and draws, and the share due.
 #[tactic(auto, unfolding(crate::specs::Figures::shares_line))]
 fn push_shares(lines: &mut FiguresLines, subject: Subject, number: u32, figures: &Figures)
     requires { length lines.old ≤ 100 }
@@ -196,7 +197,7 @@ fn push_counts(lines: &mut FiguresLines, figures: &Figures)
     push_spread(lines, " share", Unit::PercentThousandth, figures.share);
 }
 
-/// Appends what the thread or the currency was due, and its share of the live value.
+/// Appends the share due to the thread or the currency, and its share of the live value.
 #[tactic(auto, unfolding(crate::specs::Figures::dues_text))]
 fn push_dues(lines: &mut FiguresLines, figures: &Figures)
     requires { length lines.old ≤ 700 }
@@ -265,7 +266,7 @@ fn push_life(lines: &mut FiguresLines, subject: Subject, number: u32, figures: &
     lines.push_text("\n");
 }
 
-/// Appends what a line is about, and its name.
+/// Appends the subject of a line, and its name.
 fn push_subject(lines: &mut FiguresLines, subject: Subject, number: u32, figures: &Figures)
     requires { length lines.old ≤ 2700 }
     ensures text { lines.new ≡ lines.old ++ subject_text subject number figures.now }
@@ -293,7 +294,7 @@ fn push_spread(lines: &mut FiguresLines, what: &str, unit: Unit, spread: Spread)
     push_figure(lines, " most ", unit, spread.most, 1);
 }
 
-/// Appends a word, and a part of a figure, one of so many.
+/// Appends a word, and a figure divided by `parts`.
 fn push_figure(lines: &mut FiguresLines, what: &str, unit: Unit, figure: u128, parts: u64)
     requires room { (length lines.old ≤ 3020) × (length what.now ≤ 7) }
     requires some { 0 < parts }
@@ -310,7 +311,7 @@ fn push_figure(lines: &mut FiguresLines, what: &str, unit: Unit, figure: u128, p
     }
 }
 
-/// Writes a processor's line in a report over several plays.
+/// Writes a processor's line in a report over several plays. Fails with `Write` if the writer fails.
 pub fn write_processor_figures<W: Write>(
     writer: &mut Watched<W>,
     number: u32,
@@ -334,7 +335,7 @@ fn processor_line(number: u32, figures: &ProcessorFigures) -> FiguresLines
     line
 }
 
-/// Appends the draws, the idle draws, the ticks used, and those in which the processor was idle.
+/// Appends the draws, the idle draws, the ticks used, and the idle ticks.
 #[tactic(auto, unfolding(crate::specs::Figures::processor_counts))]
 fn push_processor_counts(line: &mut FiguresLines, figures: &ProcessorFigures)
     requires { length line.old ≤ 200 }
@@ -347,7 +348,7 @@ fn push_processor_counts(line: &mut FiguresLines, figures: &ProcessorFigures)
     push_spread(line, " unused", Unit::One, figures.unused);
 }
 
-/// Writes the last lines of a report over several plays.
+/// Writes the last lines of a report over several plays. Fails with `Write` if the writer fails.
 pub fn write_whole_figures<W: Write>(
     writer: &mut Watched<W>,
     figures: &WholeFigures,
@@ -384,7 +385,7 @@ fn push_whole_counts(lines: &mut FiguresLines, figures: &WholeFigures)
     push_spread(lines, " left", Unit::One, figures.left);
 }
 
-/// Appends the line of the threads that have ended, if any has.
+/// Appends the line of the threads that have ended, unless none has.
 #[tactic(auto, unfolding(crate::specs::Figures::lives_line))]
 fn push_lives(lines: &mut FiguresLines, lives: SpanFigures)
     requires { length lines.old ≤ 1500 }
@@ -401,7 +402,7 @@ fn push_lives(lines: &mut FiguresLines, lives: SpanFigures)
     lines.push_text("\n");
 }
 
-/// Writes the first line of a report over plays with these seeds.
+/// Writes the first line of a report over plays with these seeds. Fails with `Write` if the writer fails.
 pub fn write_seeds<W: Write>(writer: &mut Watched<W>, first: u32, last: u32) -> Result<(), IoFault>
     requires { writer.old.failed ≡ false }
     ensures { Writes W.contents writer.old writer.new result (seeds_line first last) }

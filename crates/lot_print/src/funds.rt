@@ -1,4 +1,4 @@
-//! The lines of the funding at a lottery.
+//! Lines that show how tickets and currencies fund a lottery.
 ghost use Rattle.std.specs.Prelude.{◌≡◌, ◌<◌, ◌≤◌, ◌+◌, ◌++◌, [], codes, false, length, unwrap_or};
 ghost use Rattle.std.specs.Fmt.{decimal};
 ghost use Rattle.lot_simulation.specs.Texts.{currency_value};
@@ -12,8 +12,8 @@ use lot_io::{IoFault, Watched};
 use lot_machine::{CurrencyRow, Name, Target, TicketRow};
 use std::io::Write;
 
-/// Writes the line of a ticket: what it funds, its amount and its currency, and its value. The line precedes that of
-/// the actor's turn.
+/// Writes the line of a ticket: its target, its amount and its currency, and its value. The line precedes that of the
+/// actor's turn. Fails with `Write` if the writer fails.
 pub fn write_ticket_funds<W: Write>(
     writer: &mut Watched<W>,
     heading: Heading,
@@ -28,7 +28,6 @@ pub fn write_ticket_funds<W: Write>(
     ticket_text(heading, number, row).write_to(writer)
 }
 
-/// The line of a ticket.
 fn ticket_text(heading: Heading, number: u32, row: &TicketRow) -> RowLine
     requires { 0 < heading.unit }
     ensures { result ≡ ticket_funds_line heading.style heading.unit heading.actor number row.now }
@@ -45,7 +44,7 @@ fn ticket_text(heading: Heading, number: u32, row: &TicketRow) -> RowLine
     line
 }
 
-/// Appends what a ticket funds, by its number and its name.
+/// Appends a ticket's target, by its number and its name.
 fn push_funded(line: &mut RowLine, funds: Target, name: &Option<Name>)
     requires { length line.old ≤ 28 }
     ensures text { line.new ≡ line.old ++ funded_text funds (unwrap_or name.now []) }
@@ -86,8 +85,8 @@ fn push_amount(line: &mut RowLine, number: u32, row: &TicketRow)
     line.push_bytes(row.issuer.as_bytes());
 }
 
-/// Writes the line of a currency: its value, and the active amount among which it is shared. The line precedes that of
-/// the actor's turn.
+/// Writes the line of a currency: its value, and the active amount that shares it. The line precedes that of the
+/// actor's turn. Fails with `Write` if the writer fails.
 pub fn write_currency_funds<W: Write>(
     writer: &mut Watched<W>,
     heading: Heading,
@@ -102,7 +101,6 @@ pub fn write_currency_funds<W: Write>(
     currency_text(heading, number, row).write_to(writer)
 }
 
-/// The line of a currency.
 fn currency_text(heading: Heading, number: u32, row: &CurrencyRow) -> RowLine
     requires { 0 < heading.unit }
     ensures { result ≡ currency_funds_line heading.style heading.unit heading.actor number row.now }

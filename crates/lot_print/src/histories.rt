@@ -11,8 +11,8 @@ use lot_io::{IoFault, Watched};
 use lot_simulation::{Format, SCHEDULE_WORD};
 use std::io::Write;
 
-/// Writes the history of a run as lines that reproduce it, as allowed in an input of the format's unit: `schedule`
-/// lines in `lottery 1`, and otherwise `runs` lines.
+/// Writes the history of a run as input lines that reproduce it: `schedule` lines in `lottery 1`, otherwise `runs`
+/// lines. Fails with `Write` if the writer fails.
 pub fn write_history<W: Write>(
     writer: &mut Watched<W>,
     format: Format,
@@ -27,7 +27,7 @@ pub fn write_history<W: Write>(
     }
 }
 
-/// Writes the history in `schedule` lines of 64 actors each; the last has the rest.
+/// Writes the history in `schedule` lines of 64 actors each; the last line may be shorter.
 fn write_schedule<W: Write>(writer: &mut Watched<W>, history: &[u8]) -> Result<(), IoFault>
     requires { writer.old.failed ≡ false }
     ensures { Writes W.contents writer.old writer.new result (reports.schedule_lines history.now) }

@@ -1,11 +1,11 @@
-//! Printed histories are read back.
+//! The parser reads a printed history back.
 ghost use Rattle.std.specs.Prelude.{ℕ, List};
 ghost use Rattle.lot_simulation.specs.Reading.{Reading};
 ghost use Rattle.lot_simulation.specs.Report.{history_lines};
 ghost use Rattle.lot_print.specs.Readback.{HasRoom, IsReadAs};
 
-/// The lines printed for a history, `schedule` lines or `runs` lines as the input's format has them, are read as that
-/// history, wherever a body line may stand.
+/// Wherever a body line may stand, the parser reads the lines printed for a history, `schedule` lines or `runs` lines
+/// by the input's format, as that history.
 pub fn histories_are_read_back()
     ensures { (n start : ℕ) (r : Reading) (history : List ℕ) → HasRoom r start history (history_lines r.unit history)
         → IsReadAs n start r (history_lines r.unit history) history }

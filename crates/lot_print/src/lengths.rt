@@ -1,19 +1,19 @@
-//! The largest numbers of bytes in lines, as sums over their parts. Clauses have these numbers as literals, and the
-//! proofs of the functions that append the parts show that they are right.
+//! The largest numbers of bytes in lines, as sums over their parts. Clauses have these numbers as literals; the proofs
+//! of the functions that append the parts check them.
 
 use lot_simulation::SCHEDULE_WORD;
 
 /// The largest number of actors in a `schedule` line.
 pub(crate) const ACTORS: usize = 64;
 
-/// A number of 16, 32 or 64 bits.
+/// A 16-bit, 32-bit or 64-bit number.
 const ACTOR: usize = 5;
 
 const NUMBER: usize = 10;
 
 const LONG_NUMBER: usize = 20;
 
-/// A quotient: a number of 128 bits, and three digits after the point.
+/// A quotient: a 128-bit number, and three digits after the point.
 const QUOTIENT: usize = 39 + 4;
 
 /// A name.
@@ -50,7 +50,7 @@ const END: usize = b" expire\n".len();
 /// The line of a turn.
 pub(crate) const TURN: usize = HEADING + RAN + 1 + OUTCOME + END;
 
-/// The page on which such lines are collected.
+/// A page of such lines.
 pub(crate) const PAGE: usize = 4096;
 
 /// A ticket's row.
@@ -96,7 +96,7 @@ const THREAD_ROW: usize = FRONT
     + COUNTS
     + 1;
 
-/// Why an entrant weighs what it does.
+/// The reason for an entrant's weight.
 const REASON: usize = b" = value ".len() + QUOTIENT + b" x ".len() + NUMBER + b" / ".len() + NUMBER;
 
 /// An entrant of a lottery.
@@ -118,7 +118,7 @@ const LOT: usize = FRONT
 /// The longest line of an entrant.
 pub(crate) const LOT_ROW: usize = 320;
 
-/// A blocked thread and whom it lends to.
+/// A blocked thread, and the thread that it lends to.
 const LOAN: usize = FRONT
     + NUMBER
     + b" lent thread ".len()
@@ -149,7 +149,7 @@ const PERCENT: usize = b" share ".len() + QUOTIENT + 1;
 /// The number of a thread's refused traps.
 const REFUSED_TRAPS: usize = b" refused ".len() + NUMBER;
 
-/// When a thread was made and when it ended.
+/// The times at which a thread was made and ended.
 const LIFE: usize = b" made ".len() + NUMBER + b" ended ".len() + NUMBER;
 
 /// A thread's line in a timed report.

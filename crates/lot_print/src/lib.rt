@@ -1,6 +1,6 @@
 //! Outputs: the texts of replies, listings, totals, histories and refused inputs. Each function writes one text to a
-//! watched writer, or a beginning of it if the writer fails, and allocates nothing. The lines of turns are collected
-//! on a page, and written together.
+//! watched writer, or a beginning of it if the writer fails, and allocates nothing. The lines of turns gather on a
+//! page, which goes out in one write.
 //!
 //! Its tests stand in `lot_text_tests`.
 #![tactic(auto)]

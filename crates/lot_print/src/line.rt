@@ -1,4 +1,4 @@
-//! A line that is assembled, and then written by one call.
+//! A line that functions append to, and then write by one call.
 ghost use Rattle.std.specs.Prelude.{◌≡◌, ◌<◌, ◌≤◌, ◌+◌, ◌/◌, ◌%◌, ◌^◌, ◌++◌, ◌∷◌, [], codes, false, length};
 ghost use Rattle.std.specs.Fmt.{decimal};
 ghost use Rattle.lot_simulation.specs.Texts.{behind_point, drawn_value, front, quotient_text, value_text};
@@ -25,7 +25,7 @@ static PAIRS: [u8; 200] = *b"0001020304050607080910111213141516171819\
 #[derive(Debug, Drop)]
 pub(crate) struct Line<const N: usize> {
     bytes: [u8; N],
-    /// The number of the line's bytes, which are the first ones.
+    /// The number of the line's bytes, the first `len` of `bytes`.
     len: usize,
 }
 
@@ -78,7 +78,7 @@ impl<const N: usize> Line<N> {
         self.push_bytes(text.as_bytes());
     }
 
-    /// Appends a word whose bytes are known at compile time: it compiles to a few stores.
+    /// Appends a word whose bytes the compiler knows: it compiles to a few stores.
     #[inline(always)]
     pub(crate) fn push_word(&mut self, word: &str)
         requires { length self.old + length word.now ≤ N }
@@ -126,8 +126,8 @@ impl<const N: usize> Line<N> {
         self.push_number(number);
     }
 
-    /// Appends the text and then the number. The digits go directly to their places, since a separate buffer would
-    /// cost more.
+    /// Appends the text and then the number. The digits go directly into the line, since a separate buffer would cost
+    /// more.
     #[inline(always)]
     pub(crate) fn push_count(&mut self, text: &str, number: u32)
         requires { length self.old + length text.now + 10 ≤ N }
@@ -158,7 +158,7 @@ impl<const N: usize> Line<N> {
         }
     }
 
-    /// Appends the text and then the number, of whatever width.
+    /// Appends the text and then the number, of any width.
     #[inline(never)]
     fn push_long_wide(&mut self, text: &str, number: u128)
         requires { length self.old + length text.now + 39 ≤ N }
@@ -181,7 +181,7 @@ impl<const N: usize> Line<N> {
         self.push_thousandths((number % divisor * 1000 / divisor) as u32);
     }
 
-    /// Appends thousandths: a point and up to three digits, without a 0 at the end; nothing for 0.
+    /// Appends thousandths: a point and up to three digits, without trailing zeros; nothing for 0.
     fn push_thousandths(&mut self, thousandths: u32)
         requires { (length self.old + 4 ≤ N) × (thousandths < 1000) }
         ensures text { self.new ≡ self.old ++ behind_point thousandths }
@@ -225,7 +225,7 @@ impl<const N: usize> Line<N> {
         self.push_text(" ");
     }
 
-    /// Appends the text and then a value, given in this many base units per unit.
+    /// Appends the text and then a value in units, given in base units.
     pub(crate) fn push_value(&mut self, text: &str, style: LineStyle, unit: u32, value: u128)
         requires room { length self.old + length text.now + 43 ≤ N }
         requires unit { 0 < unit }
@@ -239,7 +239,7 @@ impl<const N: usize> Line<N> {
         }
     }
 
-    /// Appends the text and then a drawn number, or the total that it was drawn from.
+    /// Appends the text and then a drawn number, or the total of its draw.
     #[inline(always)]
     pub(crate) fn push_drawn(&mut self, text: &str, style: LineStyle, unit: u32, number: u128)
         requires room { length self.old + length text.now + 43 ≤ N }
@@ -254,7 +254,7 @@ impl<const N: usize> Line<N> {
         }
     }
 
-    /// Appends the digits of a number that has five or more.
+    /// Appends the digits of a number with at least five.
     #[inline(never)]
     fn push_long(&mut self, number: u32)
         requires { (length self.old + 10 ≤ N) × (10000 ≤ number) }
@@ -295,7 +295,7 @@ impl<const N: usize> Line<N> {
         }
     }
 
-    /// Appends the digits of a number that has three or four.
+    /// Appends the digits of a number with three or four.
     #[inline(always)]
     fn push_three_or_four(&mut self, number: u32)
         requires { (length self.old + 4 ≤ N) × (100 ≤ number) × (number < 10000) }

@@ -11,18 +11,19 @@ use lot_io::{IoFault, Watched};
 use lot_machine::Name;
 use std::io::Write;
 
-/// What a blocked thread lends.
+/// A blocked thread's loan.
 #[derive(Debug, PartialEq, Eq, Drop)]
 pub struct Loan {
     pub thread: u32,
     pub name: Name,
-    /// Its value, all of which it lends.
+    /// The thread's value, all of which it lends.
     pub value: u64,
     /// The thread that it lends to.
     pub to: u32,
 }
 
-/// Writes the line of a thread that lends. The line precedes that of the actor's turn.
+/// Writes the line of a thread that lends. The line precedes that of the actor's turn. Fails with `Write` if the writer
+/// fails.
 pub fn write_loan<W: Write>(
     writer: &mut Watched<W>,
     heading: Heading,
@@ -49,7 +50,7 @@ fn loan_text(heading: Heading, loan: &Loan) -> RowLine
     line
 }
 
-/// Appends who lends.
+/// Appends the lender.
 fn push_lender(line: &mut RowLine, loan: &Loan)
     requires { length line.old ≤ 21 }
     ensures text { line.new ≡ line.old
@@ -61,7 +62,7 @@ fn push_lender(line: &mut RowLine, loan: &Loan)
     line.push_bytes(loan.name.as_bytes());
 }
 
-/// Appends what it lends and whom to, and the line's end.
+/// Appends the value lent, the borrower, and the line's end.
 fn push_lent(line: &mut RowLine, heading: Heading, loan: &Loan)
     requires room { length line.old ≤ 61 }
     requires unit { 0 < heading.unit }

@@ -13,26 +13,26 @@ use lot_machine::Name;
 use lot_simulation::LineStyle;
 use std::io::Write;
 
-/// The line of a lot.
 type LotLine = Line<LOT_ROW>;
 
-/// The kind of a lottery, by its holder.
+/// The kind of a lottery.
 #[derive(Clone, Copy, Debug, PartialEq, Eq)]
 pub enum Lottery {
-    /// A processor's, among the Ready threads, by their weights.
+    /// A processor's lottery among the Ready threads, by their weights (4.2).
     OfProcessor,
-    /// A mutex's, among its waiters, by their values.
+    /// A mutex's lottery among its waiters, by their values (6.1).
     OfMutex,
 }
 
-/// Why a thread weighs more than its value: it used only a part of the quantum that it won last.
+/// The reason why a thread doesn't weigh its value: it used a part of the quantum that it won last, or more than it
+/// (4.5).
 #[derive(Clone, Copy, Debug, PartialEq, Eq)]
 pub struct Compensation {
     /// The thread's value.
     pub value: u64,
     /// The ticks of a quantum.
     pub quantum: u32,
-    /// The ticks that it used.
+    /// The ticks that the thread used.
     pub used: u32,
 }
 
@@ -43,12 +43,13 @@ pub struct Lot {
     pub name: Name,
     /// Its weight in the lottery.
     pub weight: u128,
-    /// Why it isn't the thread's value; `None` if it is.
+    /// The reason if the weight isn't the thread's value, otherwise `None`.
     pub compensation: Option<Compensation>,
 }
 
 /// Writes the line of a lot in a lottery with this winner: its weight, in timed style with the reason, and its range of
-/// numbers, of which this is the first. The line precedes that of the actor's turn.
+/// numbers, which starts with `first`. The line precedes that of the actor's turn. Fails with `Write` if the writer
+/// fails.
 pub fn write_lot<W: Write>(
     writer: &mut Watched<W>,
     heading: Heading,
@@ -66,7 +67,6 @@ pub fn write_lot<W: Write>(
     lot_text(heading, lottery, winner, first, lot).write_to(writer)
 }
 
-/// The line of a lot.
 fn lot_text(heading: Heading, lottery: Lottery, winner: u32, first: u128, lot: &Lot) -> LotLine
     requires unit { 0 < heading.unit }
     requires fits { first + lot.now.weight < 2 ^ 128 }
@@ -113,7 +113,7 @@ fn push_weight(line: &mut LotLine, heading: Heading, lottery: Lottery, weight: u
     line.push_value(word, heading.style, heading.unit, weight);
 }
 
-/// Appends why it weighs so, in timed style.
+/// Appends the reason for the weight, in timed style.
 fn push_why(line: &mut LotLine, heading: Heading, compensation: Option<Compensation>)
     requires room { length line.old ≤ 111 }
     requires unit { 0 < heading.unit }
@@ -129,7 +129,7 @@ fn push_why(line: &mut LotLine, heading: Heading, compensation: Option<Compensat
     }
 }
 
-/// Appends the value, and the quantum and its part by which it is scaled.
+/// Appends the value, and the quantum and the used part that scale it.
 fn push_scaled(line: &mut LotLine, heading: Heading, reason: Compensation)
     requires room { length line.old ≤ 111 }
     requires unit { 0 < heading.unit }
@@ -146,7 +146,7 @@ fn push_scaled(line: &mut LotLine, heading: Heading, reason: Compensation)
     line.push_field(" / ", reason.used);
 }
 
-/// Appends its first number, and the bound below which its numbers are.
+/// Appends the range of numbers: its first one, and the bound below which they are.
 fn push_numbers(line: &mut LotLine, heading: Heading, first: u128, below: u128)
     requires room { length line.old ≤ 189 }
     requires unit { 0 < heading.unit }

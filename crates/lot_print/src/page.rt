@@ -1,4 +1,4 @@
-//! A page of lines that are written together.
+//! A page of lines that go out in one write.
 ghost use Rattle.std.specs.Prelude.{◌≡◌, ◌≤◌, ◌+◌, [], false, length, OnOk};
 ghost use Rattle.lot_io.specs.Writing.{Puts, Writes};
 
@@ -8,7 +8,7 @@ use lot_io::{IoFault, Watched};
 use std::io::Write;
 use std::marker::Model;
 
-/// Lines of turns that wait to be written together. It allocates nothing.
+/// Lines of turns, to be written together. It allocates nothing.
 #[derive(Debug, Drop)]
 pub struct Page {
     pub(crate) lines: Line<PAGE>,
@@ -32,7 +32,7 @@ impl Page {
         Page { lines: Line::new() }
     }
 
-    /// Writes the lines, and leaves the page empty. It retries no failed write.
+    /// Writes the lines, and leaves the page empty. It retries no failed write. Fails with `Write` if the writer fails.
     pub fn write_out<W: Write>(&mut self, writer: &mut Watched<W>) -> Result<(), IoFault>
         requires { writer.old.failed ≡ false }
         ensures text { Writes W.contents writer.old writer.new result self.old }
@@ -43,7 +43,7 @@ impl Page {
         written
     }
 
-    /// Makes room for the line of one more turn: if there is none, it writes the lines.
+    /// Makes room for the line of one more turn: it writes the page if there is none.
     #[inline(always)]
     pub(crate) fn make_room<W: Write>(&mut self, writer: &mut Watched<W>) -> Result<(), IoFault>
         requires { writer.old.failed ≡ false }

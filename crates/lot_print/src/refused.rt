@@ -13,7 +13,7 @@ use lot_machine::{Refusal, TrapRefusal};
 use lot_simulation::{InputFault, InputRefusal};
 use std::io::Write;
 
-/// Writes the one line of a refused input.
+/// Writes the one line of a refused input. Fails with `Write` if the writer fails.
 pub fn write_fault<W: Write>(writer: &mut Watched<W>, fault: InputFault) -> Result<(), IoFault>
     requires { writer.old.failed ≡ false }
     ensures { Writes W.contents writer.old writer.new result (fault_line fault) }

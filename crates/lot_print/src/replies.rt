@@ -27,8 +27,8 @@ pub struct Heading {
     pub actor: u32,
 }
 
-/// Puts the line of an actor's turn on the page: the reply to this event, which requests no listing. If the page has
-/// no room for it, it writes the page first.
+/// Puts the line of an actor's turn on the page: the reply to this event, which requests no listing. It writes a full
+/// page first, and fails with `Write` if the writer fails.
 #[inline(always)]
 pub fn write_reply<W: Write>(
     writer: &mut Watched<W>,
@@ -48,8 +48,8 @@ pub fn write_reply<W: Write>(
     Ok(())
 }
 
-/// Puts the line of a console's turn without a command on the page. If the page has no room for it, it writes the
-/// page first.
+/// Puts the line of a console's turn without a command on the page. It writes a full page first, and fails with `Write`
+/// if the writer fails.
 pub fn write_ended<W: Write>(
     writer: &mut Watched<W>,
     page: &mut Page,
@@ -101,7 +101,7 @@ fn push_heading<const N: usize>(line: &mut Line<N>, heading: Heading)
 
 /// Appends the reply to the event, and the line's end.
 ///
-/// What few turns get is appended by functions that are never compiled in: the compiler drops `inline(always)` from a
+/// Functions that the compiler never inlines append what few turns have: the compiler drops `inline(always)` from a
 /// function that would grow very large.
 #[inline(always)]
 fn push_reply<const N: usize>(line: &mut Line<N>, heading: Heading, event: &Event, reply: &Reply)
@@ -115,6 +115,7 @@ fn push_reply<const N: usize>(line: &mut Line<N>, heading: Heading, event: &Even
         Reply::Thread(n) => push_made(line, "thread ", *n),
         Reply::Funded { ticket, thread } => push_funded(line, *ticket, *thread),
         Reply::Done => push_done(line, event),
+        Reply::Killed(_) => line.push_word("done\n"),
         Reply::List(_) => (),
         Reply::Winner {
             thread,
@@ -137,7 +138,7 @@ fn push_reply<const N: usize>(line: &mut Line<N>, heading: Heading, event: &Even
     }
 }
 
-/// Appends what was done, a command or a wake, and the line's end.
+/// Appends the done command or wake, and the line's end.
 fn push_done<const N: usize>(line: &mut Line<N>, event: &Event)
     requires { length line.old + 170 ≤ N }
     ensures { line.new ≡ line.old ++ (texts.done_text event.now ++ newline) }
@@ -227,7 +228,7 @@ fn push_ran<const N: usize>(line: &mut Line<N>, thread: u32, ticks: u32)
     line.push_count(" ticks ", ticks);
 }
 
-/// Appends the thread that ran, its ticks, and the trap that the event is.
+/// Appends the thread that ran, its ticks, and its trap.
 #[inline(never)]
 fn push_trapped<const N: usize>(
     line: &mut Line<N>,
@@ -248,7 +249,7 @@ fn push_trapped<const N: usize>(
     push_trap_of(line, heading.style, heading.unit, event, *outcome, ends);
 }
 
-/// Appends the outcome of the event, a trap, whether the quantum was used up, and the line's end.
+/// Appends the outcome of a trap, the mark of a used-up quantum, and the line's end.
 fn push_trap_of<const N: usize>(
     line: &mut Line<N>,
     style: LineStyle,
@@ -317,7 +318,7 @@ fn push_trap<const N: usize>(
             line.push_count(" to ", to);
             push_draw(line, style, unit, draw);
         }
-        (Action::Sleep, Outcome::Slept) => line.push_word("sleep"),
+        (Action::Sleep(_), Outcome::Slept) => line.push_word("sleep"),
         (Action::Exit, Outcome::Exited) => line.push_word("exit"),
         _ => (),
     }

@@ -12,7 +12,8 @@ use lot_machine::{CurrencyRow, Kind, Limits, Name, Status, ThreadRow, TicketRow}
 use lot_simulation::LineStyle;
 use std::io::Write;
 
-/// Writes the line of an actor's turn that requested a listing: the listing's kind, and the number of its rows.
+/// Writes the line of an actor's turn with a listing: its kind, and the number of its rows. Fails with `Write` if the
+/// writer fails.
 pub fn write_listing_line<W: Write>(
     writer: &mut Watched<W>,
     style: LineStyle,
@@ -36,7 +37,7 @@ pub fn write_listing_line<W: Write>(
     line.write_to(writer)
 }
 
-/// Writes a ticket's line in a listing of a kernel with these limits.
+/// Writes a ticket's line in a listing of a kernel with these limits. Fails with `Write` if the writer fails.
 pub fn write_ticket<W: Write>(
     writer: &mut Watched<W>,
     style: LineStyle,
@@ -50,7 +51,6 @@ pub fn write_ticket<W: Write>(
     ticket_text(style, limits, number, row).write_to(writer)
 }
 
-/// A ticket's line.
 fn ticket_text(style: LineStyle, limits: Limits, number: u32, row: &TicketRow) -> RowLine
     ensures { result ≡ ticket_line style limits.unit number row.now }
 {
@@ -98,7 +98,8 @@ fn push_activity(line: &mut RowLine, is_active: bool)
     line.push_text(if is_active { " active" } else { " inactive" });
 }
 
-/// Writes a currency's line in a listing of a kernel with these limits; base is currency 0.
+/// Writes a currency's line in a listing of a kernel with these limits; base is currency 0. Fails with `Write` if the
+/// writer fails.
 pub fn write_currency<W: Write>(
     writer: &mut Watched<W>,
     style: LineStyle,
@@ -112,7 +113,6 @@ pub fn write_currency<W: Write>(
     currency_text(style, limits, number, row).write_to(writer)
 }
 
-/// A currency's line.
 fn currency_text(style: LineStyle, limits: Limits, number: u32, row: &CurrencyRow) -> RowLine
     ensures { result ≡ currency_line style limits.unit number row.now }
 {
@@ -127,7 +127,7 @@ fn currency_text(style: LineStyle, limits: Limits, number: u32, row: &CurrencyRo
     line
 }
 
-/// Writes a thread's line in a listing of a kernel with these limits.
+/// Writes a thread's line in a listing of a kernel with these limits. Fails with `Write` if the writer fails.
 pub fn write_thread<W: Write>(
     writer: &mut Watched<W>,
     style: LineStyle,
@@ -141,7 +141,6 @@ pub fn write_thread<W: Write>(
     thread_text(style, limits, number, row).write_to(writer)
 }
 
-/// A thread's line.
 fn thread_text(style: LineStyle, limits: Limits, number: u32, row: &ThreadRow) -> RowLine
     ensures { result ≡ thread_line style limits.unit number row.now }
 {

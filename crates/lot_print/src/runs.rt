@@ -1,4 +1,4 @@
-//! Histories as runs of one actor each.
+//! Histories in runs, each of one actor's turns in a row.
 ghost use Rattle.std.specs.Prelude.{◌≡◌, ◌<◌, ◌≤◌, ◌==◌, [], ◌∷◌, drop, false, length, take, IfSome, MatchOption};
 ghost use Rattle.std.specs.List.{flat_map, prefix_len};
 ghost use Rattle.lot_simulation.specs.Report.{run_text, runs_in, runs_line, runs_lines};
@@ -9,8 +9,8 @@ use lot_io::{IoFault, Watched, write_bytes};
 use lot_simulation::RUNS_WORD;
 use std::io::Write;
 
-/// Writes the history in lines `runs A1 K1 A2 K2 ..` of 32 pairs each, the last with the 1 to 32 remaining ones: K1
-/// turns of A1, then K2 of A2, and so on. Neighbouring pairs have different actors, even across lines.
+/// Writes the history in lines `runs A1 K1 A2 K2 ..` of 32 pairs each, the last with the remaining 1 to 32: K1 turns of
+/// A1, then K2 of A2, and so on. Neighbouring pairs have different actors, even across lines.
 pub(crate) fn write_runs<W: Write>(writer: &mut Watched<W>, history: &[u8]) -> Result<(), IoFault>
     requires { writer.old.failed ≡ false }
     ensures { Writes W.contents writer.old writer.new result (runs_lines history.now) }
@@ -73,7 +73,7 @@ pub(crate) fn after_line(history: &[u8]) -> &[u8]
     rest
 }
 
-/// The history after this many turns.
+/// The history after its first `count` turns.
 fn after_turns(history: &[u8], count: usize) -> &[u8]
     requires { count ≤ length history.now }
     ensures { result.now ≡ drop count history.now }
@@ -93,7 +93,7 @@ fn after_run(history: &[u8]) -> &[u8]
     }
 }
 
-/// The actor of the first turn, and the number of its turns in a row from there; `None` if there is no turn.
+/// The actor of the first turn, and the length of its run; `None` if there is no turn.
 pub(crate) fn first_run(history: &[u8]) -> Option<(u8, usize)>
     ensures run { MatchOption result (history.now ≡ []) (λ run. runs_in history.now
         ≡ record { actor = run.0; count = run.1 } ∷ runs_in (drop run.1 history.now)) }
@@ -103,7 +103,7 @@ pub(crate) fn first_run(history: &[u8]) -> Option<(u8, usize)>
     Some((*actor, len_of(*actor, others) + 1))
 }
 
-/// The number of the actor's turns in a row at the front.
+/// The length of the actor's run at the front.
 fn len_of(actor: u8, history: &[u8]) -> usize
     ensures turns { result ≡ prefix_len (λ a. a == actor) history.now }
     ensures within { result ≤ length history.now }

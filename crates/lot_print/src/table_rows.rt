@@ -1,4 +1,4 @@
-//! The rows of a report as a table: fields with commas between them.
+//! The rows of a report as a table: fields separated by commas.
 ghost use Rattle.std.specs.Prelude.{◌≡◌, ◌<◌, ◌≤◌, ◌+◌, ◌*◌, ◌^◌, ◌++◌, codes, false, length};
 ghost use Rattle.std.specs.Fmt.{decimal};
 ghost use Rattle.lot_simulation.specs.Texts.{newline};
@@ -21,7 +21,6 @@ use lot_machine::{Name, ThreadRow};
 use lot_simulation::{Spans, TICK_PARTS};
 use std::io::Write;
 
-/// A row of a table.
 type TableRow = Line<TABLE_ROW>;
 
 /// The columns of a report's table.
@@ -37,7 +36,7 @@ pub enum Columns {
     Figures(FiguresTable),
 }
 
-/// What a table of a report over several plays has rows for.
+/// The subject of a table's rows in a report over several plays.
 #[derive(Clone, Copy, Debug)]
 pub enum FiguresTable {
     /// The threads of a schedule.
@@ -48,7 +47,7 @@ pub enum FiguresTable {
     OfCurrencies,
 }
 
-/// Writes the first row of a table with these columns.
+/// Writes the first row of a table with these columns. Fails with `Write` if the writer fails.
 pub fn write_header<W: Write>(writer: &mut Watched<W>, columns: Columns) -> Result<(), IoFault>
     requires { writer.old.failed ≡ false }
     ensures { Writes W.contents writer.old writer.new result (header_row columns) }
@@ -126,7 +125,7 @@ fn push_timed_names(row: &mut TableRow)
     push_life_names(row);
 }
 
-/// Appends the names of the columns for what a thread was due, and its share of the live value.
+/// Appends the names of the columns for a thread's due share, and its share of the live value.
 fn push_dues_names(row: &mut TableRow)
     requires { length row.old ≤ 400 }
     ensures text { row.new ≡ row.old ++ dues_names }
@@ -136,7 +135,7 @@ fn push_dues_names(row: &mut TableRow)
     push_names(row, "value_percent");
 }
 
-/// Appends those for its waits to run.
+/// Appends the names for its waits to run.
 fn push_ready_names(row: &mut TableRow)
     requires { length row.old ≤ 600 }
     ensures text { row.new ≡ row.old ++ ready_names }
@@ -147,7 +146,7 @@ fn push_ready_names(row: &mut TableRow)
     push_names(row, "ready_longest");
 }
 
-/// Appends those for its waits for mutexes.
+/// Appends the names for its waits for mutexes.
 fn push_mutex_names(row: &mut TableRow)
     requires { length row.old ≤ 800 }
     ensures text { row.new ≡ row.old ++ mutex_names }
@@ -158,7 +157,7 @@ fn push_mutex_names(row: &mut TableRow)
     push_names(row, "mutex_longest");
 }
 
-/// Appends those for its waits for replies.
+/// Appends the names for its waits for replies.
 fn push_reply_names(row: &mut TableRow)
     requires { length row.old ≤ 1000 }
     ensures text { row.new ≡ row.old ++ reply_names }
@@ -169,7 +168,7 @@ fn push_reply_names(row: &mut TableRow)
     push_names(row, "reply_longest");
 }
 
-/// Appends those for its refused traps, and for when it was made and ended.
+/// Appends the names for its refused traps, and for the times at which it was made and ended.
 fn push_life_names(row: &mut TableRow)
     requires { length row.old ≤ 1200 }
     ensures text { row.new ≡ row.old ++ life_names }
@@ -180,7 +179,7 @@ fn push_life_names(row: &mut TableRow)
     push_names(row, "ended");
 }
 
-/// Appends the names of the columns for a currency's ticks, their share of all ticks, and what it was due.
+/// Appends the names of the columns for a currency's ticks, their share of all ticks, and its due share.
 fn push_currency_names(row: &mut TableRow)
     requires { length row.old ≤ 200 }
     ensures text { row.new ≡ row.old ++ currency_names }
@@ -207,7 +206,7 @@ fn push_names(row: &mut TableRow, what: &str)
     row.push_text("_most");
 }
 
-/// Writes a thread's row in the table of a schedule's report.
+/// Writes a thread's row in the table of a schedule's report. Fails with `Write` if the writer fails.
 pub fn write_thread_record<W: Write>(
     writer: &mut Watched<W>,
     number: u32,
@@ -222,7 +221,7 @@ pub fn write_thread_record<W: Write>(
     fields.write_to(writer)
 }
 
-/// Writes a thread's row in the table of a timed report.
+/// Writes a thread's row in the table of a timed report. Fails with `Write` if the writer fails.
 pub fn write_timed_thread_record<W: Write>(
     writer: &mut Watched<W>,
     number: u32,
@@ -255,7 +254,8 @@ fn timed_row(number: u32, row: &ThreadRow, shares: ThreadShares) -> TableRow
     fields
 }
 
-/// Writes the row of the currency with this number and name in the table of a timed program's currencies.
+/// Writes the row of the currency with this number and name in the table of a timed program's currencies. Fails with
+/// `Write` if the writer fails.
 pub fn write_timed_currency_record<W: Write>(
     writer: &mut Watched<W>,
     number: u32,
@@ -290,7 +290,8 @@ fn currency_row(number: u32, name: &Name, shares: CurrencyShares) -> TableRow
     fields
 }
 
-/// Writes the row of the thread or the currency with this number in this table of a report over several plays.
+/// Writes the row of the thread or the currency with this number in this table of a report over several plays. Fails
+/// with `Write` if the writer fails.
 pub fn write_figures_record<W: Write>(
     writer: &mut Watched<W>,
     table: FiguresTable,
@@ -334,7 +335,7 @@ fn push_counts(fields: &mut TableRow, figures: &Figures)
     push_spread(fields, Unit::PercentThousandth, figures.share);
 }
 
-/// Appends what only the rows of a timed program's threads have, over several plays.
+/// Appends the fields that only a timed program's threads have, over several plays.
 #[tactic(auto, unfolding(crate::specs::TableRows::timed_fields))]
 fn push_timed(fields: &mut TableRow, figures: &Figures)
     requires { length fields.old ≤ 444 }
@@ -363,7 +364,7 @@ fn push_span_figures(fields: &mut TableRow, waits: SpanFigures)
     push_spread(fields, Unit::One, waits.longest);
 }
 
-/// Appends a currency's ticks, its share of all ticks, and what it was due, over several plays.
+/// Appends a currency's ticks, their share of all ticks, and its due share, over several plays.
 #[tactic(auto, unfolding(crate::specs::TableRows::currency_fields))]
 fn push_currency(fields: &mut TableRow, figures: &Figures)
     requires { length fields.old ≤ 100 }
@@ -386,7 +387,7 @@ fn push_named(fields: &mut TableRow, number: u32, name: &Name)
     fields.push_bytes(name.as_bytes());
 }
 
-/// Appends a thread's first fields: its number and name, the draws it has won, and the ticks it has used.
+/// Appends a thread's first fields: its number and name, the draws won, and the ticks used.
 fn push_thread(fields: &mut TableRow, number: u32, row: &ThreadRow)
     requires { length fields.old ≤ 100 }
     ensures text { fields.new ≡ fields.old ++ thread_fields number row.now }
@@ -397,7 +398,7 @@ fn push_thread(fields: &mut TableRow, number: u32, row: &ThreadRow)
     fields.push_field(",", row.ticks);
 }
 
-/// Appends the thread's share of all ticks, what it was due of the time in which threads were live, and its share of
+/// Appends the thread's share of all ticks, its due share of the time in which live threads had value, and its share of
 /// the live value.
 fn push_shares(fields: &mut TableRow, ticks: u64, shares: ThreadShares)
     requires room { length fields.old ≤ 150 }
@@ -419,7 +420,7 @@ fn push_shares(fields: &mut TableRow, ticks: u64, shares: ThreadShares)
     push_percent(fields, u128::from(shares.live_value), shares.all_values);
 }
 
-/// Appends the share that ticks are of all ticks, and these parts of a tick as a share of this time.
+/// Appends the share of `ticks` in all ticks, and the share of `due`, in parts of a tick, in `time`.
 fn push_share_and_due(fields: &mut TableRow, ticks: u64, all_ticks: u64, due: u128, time: u64)
     requires room { length fields.old ≤ 150 }
     requires time { time < 2 ^ 57 }
@@ -476,7 +477,7 @@ fn push_waits(fields: &mut TableRow, waits: Spans)
     fields.push_field(",", waits.longest);
 }
 
-/// Appends when a thread was made, and when it ended, or an empty field if it hasn't.
+/// Appends the times at which a thread was made and ended; the second field is empty if it hasn't ended.
 fn push_life(fields: &mut TableRow, lives: Spans)
     requires { length fields.old ≤ 450 }
     ensures text { fields.new ≡ fields.old ++ life_fields lives }
@@ -511,7 +512,7 @@ fn push_spread(fields: &mut TableRow, unit: Unit, spread: Spread)
     push_part(fields, unit, spread.most, 1);
 }
 
-/// Appends a field with one of so many parts of a figure.
+/// Appends a field with a figure divided by `parts`.
 fn push_part(fields: &mut TableRow, unit: Unit, figure: u128, parts: u64)
     requires room { length fields.old ≤ 2250 }
     requires some { 0 < parts }

@@ -21,44 +21,44 @@ use std::io::Write;
 /// A line of a timed report.
 type TimedLine = Line<TIMED_ROW>;
 
-/// The numbers that a timed report gives for a thread, in addition to its row.
+/// The fields that a timed report adds to a thread's row.
 #[derive(Clone, Copy, Debug)]
 pub struct ThreadShares {
     /// The ticks that all threads have used.
     pub all_ticks: u64,
-    /// What the thread was due, in parts of a tick, below 2^121.
+    /// The parts of a tick due to the thread, below 2 ^ 121.
     pub due: u128,
-    /// The ticks in which threads were live and worth anything, below 2^57.
+    /// The ticks during which the live value was above 0, below 2 ^ 57.
     pub live_time: u64,
     /// The thread's value if it is live, and 0 otherwise.
     pub live_value: u64,
     /// The value of all live threads, below 2^96.
     pub all_values: u128,
-    /// Its waits to run, followed by those for mutexes and for replies.
+    /// The thread's waits to run; the next two are those for mutexes and for replies.
     pub ready: Spans,
     pub mutexes: Spans,
     pub replies: Spans,
-    /// How many of its traps were refused.
+    /// The number of the thread's refused traps.
     pub refused_traps: u32,
-    /// The lives of the threads that have had its number, its own the last.
+    /// The lives of the threads that have had its number; the last is its own.
     pub lives: Spans,
 }
 
-/// The numbers that a timed report gives for a currency.
+/// The fields of a currency in a timed report.
 #[derive(Clone, Copy, Debug)]
 pub struct CurrencyShares {
     /// The ticks of the threads below the currency.
     pub ticks: u64,
     /// The ticks that all threads have used.
     pub all_ticks: u64,
-    /// What the currency was due, in parts of a tick, below 2^121.
+    /// The parts of a tick due to the currency, below 2 ^ 121.
     pub due: u128,
-    /// The ticks in which tickets of base were active, below 2^57.
+    /// The ticks during which base tickets were active, below 2 ^ 57.
     pub base_time: u64,
 }
 
-/// The numbers that a timed report gives for a processor: its won draws, its idle draws, the ticks used there, and
-/// the ticks in which it was idle.
+/// The fields of a processor in a timed report: its won draws, its idle draws, the ticks used there, and its idle
+/// ticks.
 #[derive(Clone, Copy, Debug)]
 pub struct TimedProcessorTotal {
     pub processor: u32,
@@ -68,8 +68,8 @@ pub struct TimedProcessorTotal {
     pub unused: u64,
 }
 
-/// The last line's numbers in a timed report: the number of turns, the counts over all of them, the numbers of
-/// commands refused and never made, and the past lives.
+/// The fields of a timed report's last line: the number of turns, the counts over all of them, the numbers of commands
+/// refused and never made, and the past lives.
 #[derive(Clone, Copy, Debug)]
 pub struct TimedWholeTotal {
     pub turns: u64,
@@ -80,7 +80,7 @@ pub struct TimedWholeTotal {
     pub lives: PastLives,
 }
 
-/// Writes a thread's line of a timed report.
+/// Writes a thread's line of a timed report. Fails with `Write` if the writer fails.
 pub fn write_timed_thread_total<W: Write>(
     writer: &mut Watched<W>,
     number: u32,
@@ -114,7 +114,7 @@ fn thread_line(number: u32, row: &ThreadRow, shares: ThreadShares) -> TimedLine
     line
 }
 
-/// Appends the thread's share of all ticks, what it was due of the time in which threads were live, and its share of
+/// Appends the thread's share of all ticks, its due share of the time in which live threads had value, and its share of
 /// the live value.
 fn push_shares(line: &mut TimedLine, ticks: u64, shares: ThreadShares)
     requires room { length line.old ≤ 150 }
@@ -135,7 +135,7 @@ fn push_shares(line: &mut TimedLine, ticks: u64, shares: ThreadShares)
     );
 }
 
-/// Appends the share that ticks are of all ticks, and these parts of a tick as a share of this time.
+/// Appends the share of `ticks` in all ticks, and the share of `due`, in parts of a tick, in `time`.
 fn push_share_and_due(line: &mut TimedLine, ticks: u64, all_ticks: u64, due: u128, time: u64)
     requires room { length line.old ≤ 150 }
     requires time { time < 2 ^ 57 }
@@ -206,7 +206,7 @@ fn push_refused_traps(line: &mut TimedLine, refused: u32)
     line.push_field(" refused ", refused);
 }
 
-/// Appends when the thread was made, unless that was at 0 and it hasn't ended, and when it ended, if it has.
+/// Appends the times at which the thread was made and ended. A thread made at 0 that hasn't ended has neither.
 fn push_life(line: &mut TimedLine, lives: Spans)
     requires { length line.old ≤ 570 }
     ensures text { line.new ≡ line.old ++ life_text lives }
@@ -222,7 +222,7 @@ fn push_life(line: &mut TimedLine, lives: Spans)
     }
 }
 
-/// Appends when a thread that hasn't ended was made, unless that was at 0.
+/// Appends the time at which a thread that hasn't ended was made, unless it is 0.
 fn push_made(line: &mut TimedLine, made: u32)
     requires { length line.old ≤ 570 }
     ensures text { line.new ≡ line.old ++ (if made == 0 then [] else codes " made " ++ decimal made) }
@@ -233,7 +233,8 @@ fn push_made(line: &mut TimedLine, made: u32)
     }
 }
 
-/// Writes the line of a timed report for the currency with this number and name.
+/// Writes the line of a timed report for the currency with this number and name. Fails with `Write` if the writer
+/// fails.
 pub fn write_timed_currency_total<W: Write>(
     writer: &mut Watched<W>,
     number: u32,
@@ -268,7 +269,7 @@ fn currency_line(number: u32, name: &Name, shares: CurrencyShares) -> TimedLine
     line
 }
 
-/// Writes a processor's line of a timed report.
+/// Writes a processor's line of a timed report. Fails with `Write` if the writer fails.
 pub fn write_timed_processor_total<W: Write>(
     writer: &mut Watched<W>,
     total: TimedProcessorTotal,
@@ -294,7 +295,7 @@ fn processor_line(total: TimedProcessorTotal) -> TimedLine
     line
 }
 
-/// Writes the last line of a timed report.
+/// Writes the last line of a timed report. Fails with `Write` if the writer fails.
 pub fn write_timed_whole_total<W: Write>(
     writer: &mut Watched<W>,
     total: TimedWholeTotal,
@@ -320,7 +321,7 @@ fn total_line(total: TimedWholeTotal) -> TimedLine
     line
 }
 
-/// Appends how many threads have ended, how long they lived on average, and the longest of their lives, if any has.
+/// Appends the number of ended threads, the mean of their lives, and the longest life, unless no thread has ended.
 fn push_ended(line: &mut TimedLine, lives: PastLives)
     requires { length line.old ≤ 300 }
     ensures text { line.new ≡ line.old ++ ended_text lives }
@@ -334,7 +335,7 @@ fn push_ended(line: &mut TimedLine, lives: PastLives)
     line.push_field(" longest ", lives.longest);
 }
 
-/// Writes the line that says how a play ended before its time.
+/// Writes the line of an early end. Fails with `Write` if the writer fails.
 pub fn write_early_end<W: Write>(writer: &mut Watched<W>, early: EarlyEnd) -> Result<(), IoFault>
     requires { writer.old.failed ≡ false }
     ensures { Writes W.contents writer.old writer.new result (reports.early_line early) }
@@ -342,7 +343,6 @@ pub fn write_early_end<W: Write>(writer: &mut Watched<W>, early: EarlyEnd) -> Re
     early_line(early).write_to(writer)
 }
 
-/// The line that says how a play ended before its time.
 fn early_line(early: EarlyEnd) -> TimedLine
     ensures { result ≡ reports.early_line early }
 {

@@ -10,7 +10,7 @@ use lot_io::{IoFault, Watched, write_bytes};
 use lot_machine::ThreadRow;
 use std::io::Write;
 
-/// The numbers that the report gives for a processor: its won draws, its idle draws, and the ticks used there.
+/// The fields of a processor in the report: its won draws, its idle draws, and the ticks used there.
 #[derive(Clone, Copy, Debug)]
 pub struct ProcessorTotal {
     pub processor: u32,
@@ -19,7 +19,7 @@ pub struct ProcessorTotal {
     pub ticks: u64,
 }
 
-/// The numbers in the report's last line: the number of turns, and the counts over all of them.
+/// The fields of the report's last line: the number of turns, and the counts over all of them.
 #[derive(Clone, Copy, Debug)]
 pub struct WholeTotal {
     pub turns: u64,
@@ -27,7 +27,7 @@ pub struct WholeTotal {
     pub ticks: u64,
 }
 
-/// Writes the first line of the report.
+/// Writes the first line of the report. Fails with `Write` if the writer fails.
 pub fn write_report_line<W: Write>(writer: &mut Watched<W>) -> Result<(), IoFault>
     requires { writer.old.failed ≡ false }
     ensures { Writes W.contents writer.old writer.new result (codes "report\n") }
@@ -35,7 +35,8 @@ pub fn write_report_line<W: Write>(writer: &mut Watched<W>) -> Result<(), IoFaul
     write_bytes(writer, b"report\n")
 }
 
-/// Writes a thread's line of the report: its name, the draws it has won and the ticks it has used.
+/// Writes a thread's line of the report: its name, the draws won and the ticks used. Fails with `Write` if the writer
+/// fails.
 pub fn write_thread_total<W: Write>(
     writer: &mut Watched<W>,
     number: u32,
@@ -50,7 +51,7 @@ pub fn write_thread_total<W: Write>(
     line.write_to(writer)
 }
 
-/// Writes a processor's line of the report.
+/// Writes a processor's line of the report. Fails with `Write` if the writer fails.
 pub fn write_processor_total<W: Write>(
     writer: &mut Watched<W>,
     total: ProcessorTotal,
@@ -62,7 +63,6 @@ pub fn write_processor_total<W: Write>(
     processor_text(total).write_to(writer)
 }
 
-/// A processor's line.
 fn processor_text(total: ProcessorTotal) -> RowLine
     ensures { result ≡ processor_line total.processor total.quanta total.idles total.ticks }
 {
@@ -75,7 +75,7 @@ fn processor_text(total: ProcessorTotal) -> RowLine
     line
 }
 
-/// Writes the last line of the report.
+/// Writes the last line of the report. Fails with `Write` if the writer fails.
 pub fn write_whole_total<W: Write>(
     writer: &mut Watched<W>,
     total: WholeTotal,

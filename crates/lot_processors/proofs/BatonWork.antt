@@ -1,4 +1,4 @@
--- What a seat has made, one call after another.
+-- The turns of a seat, one call after another.
 use Rattle.lot_processors.proofs.Common.{Answer, Continues, EachSeat, Extends, Faults, HasMade, HasMadeAll, HasStopped, HasWorked, IsFirstFault, IsLastWork, IsLegalIn, IsSameSeat, IsStale, IsWorkOf, List, Looks, Matches, None, Option, Parts, Program, Seat, Seen, Some, Stale, TurnFault, Turns, Work, ap, arith, inl, inr, length, refl, slice_index_or, starts_more, starts_self, starts_trans, subst, sym, turns_by, turns_for, ℕ, [], ◌+◌, ◌<◌, ◌∙◌, ◌∷◌, ◌≡◌}
 use Rattle.lot_processors.specs.BatonWorkers.{AllMade, FirstStops, StopsTurn}
 use Rattle.lot_processors.proofs.SeatWork.{no-work, stale-carries}

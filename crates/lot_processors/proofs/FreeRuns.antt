@@ -1,4 +1,4 @@
--- What the seats of a free run say of its history.
+-- The history of a free run, by its seats.
 use Rattle.lot_processors.proofs.Common.{AllMade, AreDealt, AtSome, CountsAgree, Faults, FirstStops, FitsIn, HasOthers, Holder, InOrder, IsLegalIn, IsStale, IsStopped, IsWorkOf, List, Matches, None, Option, Program, Seen, Setting, Some, Stale, StopsTurn, TurnFault, Work, ap, arith, count_by, dealt, free_setting, get_or_from_slice_get, inl, inr, length, refl, slice_get, slice_get-get_or, slice_get_within, slice_index_or, subst, sym, times_in, turns_for, ℕ, [], ◌+◌, ◌<◌, ◌==◌, ◌∙◌, ◌≡◌, ◌≤◌}
 
 -- what is added to nothing

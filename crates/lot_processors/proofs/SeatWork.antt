@@ -1,4 +1,4 @@
--- What a seat of a station has made, one call after another.
+-- The turns of a station's seat, one call after another.
 use Rattle.lot_processors.proofs.Common.{All, All-append, All-push, AllMade, Answer, Answers, AtSome, EachSeat, Faults, FirstStops, Goes, Holder, IsLastWork, IsReply, IsStale, IsWorkOf, List, Matches, None, Option, Parts, Program, Seen, Setting, Some, Stale, StopsTurn, TurnFault, Work, ap, ap₂, arith, inl, inr, length, length-append, quanta_in, refl, slice_index_or, subst, sum_by-append, sum_by_push, sym, ticks_in, turns_for, with_turn, ℕ, [], ◌++◌, ◌+◌, ◌<◌, ◌∙◌, ◌∷◌, ◌≡◌}
 use Rattle.lot_processors.specs.Workers.{HasMade, HasMadeAll, HasStopped, HasWorked, IsFirstFault}
 use Rattle.lot_processors.proofs.SeatsWork as seats

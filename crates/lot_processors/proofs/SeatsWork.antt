@@ -1,4 +1,4 @@
--- What the workers of all seats have done, and then the first fault that one keeps.
+-- The turns of all seats' workers, and then the first stored fault.
 use Rattle.lot_processors.proofs.Common.{EachSeat, List, None, Option, Some, TurnFault, ap, arith, inl, inr, is_some, length, slice_index_or, subst, sym, true≢false, ℕ, ◌<◌, ◌∙◌, ◌≡◌, ◌⊎◌}
 
 -- Seats that may keep a fault: one that has made all keeps none, and one that was stopped is still that if its fault is

@@ -1,4 +1,4 @@
--- Workers at the seats of a system passed around as a baton.
+-- Workers at the seats of a baton station.
 use Rattle.std.specs.Prelude.{◌≡◌, ◌⊎◌, ℕ, ◌+◌, ◌<◌, List, Option, Some, None, length}
 use Rattle.lot_simulation.specs.World.{Program}
 use Rattle.lot_engine.specs.declared.fault.TurnFault.{TurnFault}
@@ -55,7 +55,7 @@ pub record HasMadeAll (program : Program) (before after : Seat) : Type 0 where
   pub made : HasMade (turns_for program before.actor) before after
   pub no_fault : after.stopped ≡ None
 
--- the seat has made all its turns; or a fault stopped it before, and it stores that fault
+-- the seat has made all its turns, or a fault stopped it before, which it stores
 abbrev pub HasWorked : Program → Seat → Seat → Type 0
 HasWorked program before after =
     HasMadeAll program before after
@@ -65,8 +65,8 @@ HasWorked program before after =
 abbrev pub AllMade : Program → List Seat → List Seat → Type 0
 AllMade program before after = EachSeat before after (λ k s t. HasMadeAll program s t)
 
--- The fault stopped some seat, which doesn't store it any more. Each seat before it has made all its turns, and each
--- seat after it has worked.
+-- The fault stopped some seat, which no longer stores it. Each seat before it has made all its turns, and each seat
+-- after it has worked.
 pub record FirstStops (program : Program) (fault : TurnFault) (before after : List Seat) : Type 0 where
   pub place : ℕ
   pub there : place < length before

@@ -51,7 +51,7 @@ abbrev pub Stops : Program → ℕ → Option Work → Seen → TurnFault → Ty
 Stops program actor work now fault =
     IsStale program work fault ⊎ ((given : Option Parts) × Matches program work given × Faults now actor given fault)
 
--- no later work is left to try: a fault that says Stale carries the very work whose slice it refused
+-- no later work is left to try: a Stale fault carries the very work whose slice it refused
 abbrev pub IsLastWork : Option Work → TurnFault → Type 0
 IsLastWork work fault = (now : Option Work) → fault ≡ Stale now → now ≡ work
 
@@ -81,7 +81,7 @@ pub record HasMadeAll (setting : Setting) (program : Program) (before after : Ho
   pub made : HasMade setting (turns_for program before.actor) before after
   pub no_fault : after.stopped ≡ None
 
--- the seat has made all its turns; or a fault stopped it before, and it stores that fault
+-- the seat has made all its turns, or a fault stopped it before, which it stores
 abbrev pub HasWorked : Setting → Program → Holder → Holder → Type 0
 HasWorked setting program before after =
     HasMadeAll setting program before after
@@ -91,8 +91,8 @@ HasWorked setting program before after =
 abbrev pub AllMade : Setting → Program → List Holder → List Holder → Type 0
 AllMade setting program before after = EachSeat before after (λ k s t. HasMadeAll setting program s t)
 
--- The fault stopped some seat, which doesn't store it any more. Each seat before it has made all its turns, and each
--- seat after it has worked.
+-- The fault stopped some seat, which no longer stores it. Each seat before it has made all its turns, and each seat
+-- after it has worked.
 pub record FirstStops (setting : Setting) (program : Program) (fault : TurnFault) (before after : List Holder) : Type 0 where
   pub place : ℕ
   pub there : place < length before
@@ -127,8 +127,8 @@ pub record IsFreeRun (program : Program) (history : List ℕ) : Type 0 where
   pub legal : IsLegal program (turns_in_all program) history
   pub turns : (actor : ℕ) → actor ≤ program.limits.processors → count_by (λ a. a == actor) history ≡ turns_for program actor
 
--- This is the fault of the first stopped seat in a free run of the program. It isn't Stale: what another actor did to
--- the work of a processor stops nobody.
+-- This is the fault of the first stopped seat in a free run of the program. It isn't Stale: no change by another actor
+-- to a processor's work stops a worker.
 pub record IsStopped (program : Program) (fault : TurnFault) : Type 0 where
   pub not_stale : (work : Option Work) → ¬ (fault ≡ Stale work)
   pub before : List Holder

@@ -16,13 +16,13 @@ use std::sync::Wait;
 use std::thread;
 use std::thread::Threads;
 
-/// Makes the program's turns through the seats, which must be all of the station's, in order, as `run_all` does: the
-/// console's seat makes one for each command, and each processor's as many as the program has turns. Each seat has a
+/// Makes the program's turns through the seats, which must be all of the station's, in order, like `run_all`: the
+/// console's seat makes one for each command, and each processor's seat the program's number of turns. Each seat has a
 /// worker, on a thread of its own if one can be started; it stops at its first fault. All workers have stopped when
 /// this returns. It may block.
 ///
-/// Returns the fault of the first seat that a fault stopped, and removes it from that seat. A later seat that was
-/// stopped keeps its own fault, until `BatonSeat::take_fault` removes it or the next run begins.
+/// Returns the fault of the first seat that a fault stopped, and removes it from that seat. A later stopped seat keeps
+/// its own fault, until `BatonSeat::take_fault` removes it or the next run begins.
 pub fn run_all_baton<G: Gate + Sync, R: Threads + Wait + Sync>(
     rt: &R,
     station: &BatonStation,
@@ -46,7 +46,7 @@ pub fn run_all_baton<G: Gate + Sync, R: Threads + Wait + Sync>(
     }
 }
 
-/// The fault of the first seat that has one; it is removed from that seat.
+/// The fault of the first seat that has one, which it removes from the seat.
 fn first_fault(seats: &mut [BatonSeat]) -> Option<TurnFault>
     ensures none { result ≡ None → (seats.new ≡ seats.old) × All (λ seat. seat.stopped ≡ None) seats.old }
     ensures some { IfSome result (λ fault. IsFirstFault fault seats.old seats.new) }
@@ -60,7 +60,7 @@ fn first_fault(seats: &mut [BatonSeat]) -> Option<TurnFault>
     None
 }
 
-/// Makes the turns of the seat's actor, until one fails; then the seat stores the fault.
+/// Makes the turns of the seat's actor until one fails. The seat stores the fault.
 fn work_for(
     rt: &impl Wait,
     station: &BatonStation,
@@ -140,8 +140,8 @@ fn processor_turns(
     Ok(())
 }
 
-/// Makes a turn with the slice of this work, or of a later one if another actor has changed the work meanwhile, as a
-/// kill of the running thread does. Returns the next work.
+/// Makes a turn with the slice of this work. If another actor has changed the work meanwhile, as a kill of the running
+/// thread does, it tries the later work. Returns the next work.
 fn turn_with(
     rt: &impl Wait,
     station: &BatonStation,

@@ -20,7 +20,7 @@ pub enum FreeRunFault {
     /// Out of memory, before any turn.
     #[error("out of memory")]
     Memory,
-    /// A worker stopped early; this is the fault of the first stopped seat.
+    /// A worker stopped early, with this fault of the first stopped seat.
     #[error("{0}")]
     Run(RunFault),
     /// All workers made all their turns, but the history has others.
@@ -29,9 +29,10 @@ pub enum FreeRunFault {
 }
 
 /// Opens a system of the program, lets workers make all its commands and all its processors' turns, and returns the
-/// system. It may block.
+/// system. It may block. Fails with `Memory` if out of memory before any turn, with `Run` if a worker stopped early,
+/// and with `CountsDiffer` if the history has other turns than the workers made.
 ///
-/// The turns have no time, and nothing wakes a thread that sleeps: pass the program without time
+/// The turns have no time, and nothing wakes a sleeping thread: pass the program without time
 /// (`Program::without_time`).
 pub fn free_run<G: Gate + Sync, R: Threads + Wait + Sync>(
     rt: &R,
@@ -67,7 +68,7 @@ fn turns_in_all(program: &Program) -> u32
     program.commands().len() as u32 + program.limits().processors * program.turns()
 }
 
-/// Lets workers make the turns of the program in this system, which has had none, and returns it.
+/// Lets workers make the turns of the program in this new system, and returns it.
 fn run_system<
     T: TurnLedger + Send + Sync,
     Q: Ledger + Send + Sync,

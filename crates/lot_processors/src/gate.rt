@@ -1,10 +1,9 @@
 //! Gates that processors' workers pass before their turns.
 
-/// A gate: the worker of each processor passes it before each of its turns, while it holds nothing that the others
-/// need. The console's worker passes none.
+/// A gate: each processor's worker passes it before each of its turns, while it holds nothing that the others need. The
+/// console's worker passes none.
 pub trait Gate {
-    /// The worker of processor `processor` calls this with its work at hand, before it makes its turn number `turn`,
-    /// which counts from 1.
+    /// The worker of processor `processor` calls this before it makes its turn number `turn`, which counts from 1.
     fn pass(&self, processor: u32, turn: u32);
 }
 

@@ -1,4 +1,4 @@
-//! Works that change while a worker is at one.
+//! Works that change while a worker tries one.
 ghost use Rattle.std.specs.Prelude.{◌≡◌, IfErr, IfOk, IsTrue};
 ghost use Rattle.lot_engine.specs.declared.fault.TurnFault.TheVariants.{Stale};
 ghost use Rattle.lot_processors.specs.Workers.{IsLastWork};
@@ -6,7 +6,7 @@ ghost use Rattle.lot_processors.specs.Workers.{IsLastWork};
 use lot_engine::{TurnFault, Work};
 
 /// The actor's work, if the turn with the slice of the tried one was refused because another actor has changed it
-/// meanwhile. Any other fault is returned.
+/// meanwhile. It returns any other fault.
 pub(crate) fn later_work(fault: TurnFault, tried: &Option<Work>) -> Result<Option<Work>, TurnFault>
     ensures later { IfOk result (λ work. fault ≡ Stale work) }
     ensures fault { IfErr result (λ same. same ≡ fault) }
@@ -25,7 +25,7 @@ pub(crate) fn later_work(fault: TurnFault, tried: &Option<Work>) -> Result<Optio
     }
 }
 
-/// Whether both are the same work, or neither is one.
+/// Whether both are the same work, or both `None`.
 fn is_same(work: &Option<Work>, other: &Option<Work>) -> bool
     ensures { IsTrue result → work.now ≡ other.now }
 {

@@ -15,13 +15,13 @@ use std::sync::ledger::Ledger;
 use std::thread;
 use std::thread::Threads;
 
-/// Makes the program's turns through the seats, which must be all of the station's, in order: the console's seat
-/// makes one for each command, and each processor's as many as the program has turns. Each seat has a worker, on a
-/// thread of its own if one can be started; it stops at its first fault. All workers have stopped when this returns.
-/// It may block.
+/// Makes the program's turns through the seats, which must be all of the station's, in order: the console's seat makes
+/// one for each command, and each processor's seat the program's number of turns. Each seat has a worker, on a thread
+/// of its own if one can be started; it stops at its first fault. All workers have stopped when this returns. It may
+/// block.
 ///
-/// Returns the fault of the first seat that a fault stopped, and removes it from that seat. A later seat that was
-/// stopped keeps its own fault, until `Seat::take_fault` removes it or the next run begins.
+/// Returns the fault of the first seat that a fault stopped, and removes it from that seat. A later stopped seat keeps
+/// its own fault, until `Seat::take_fault` removes it or the next run begins.
 pub fn run_all<
     T: TurnLedger + Send + Sync,
     Q: Ledger + Send + Sync,
@@ -48,7 +48,7 @@ pub fn run_all<
     }
 }
 
-/// The fault of the first seat that has one; it is removed from that seat.
+/// The fault of the first seat that has one, which it removes from the seat.
 fn first_fault<T: TurnLedger, Q: Ledger, K: Ledger>(
     seats: &mut [Seat<T, Q, K>],
 ) -> Option<TurnFault>
@@ -64,7 +64,7 @@ fn first_fault<T: TurnLedger, Q: Ledger, K: Ledger>(
     None
 }
 
-/// Makes the turns of the seat's actor, until one fails; then the seat stores the fault.
+/// Makes the turns of the seat's actor until one fails. The seat stores the fault.
 fn work_for<T: TurnLedger, Q: Ledger, K: Ledger>(
     rt: &impl Wait,
     station: &Station<T, Q, K>,
@@ -141,8 +141,8 @@ fn processor_turns<T: TurnLedger, Q: Ledger, K: Ledger>(
     Ok(())
 }
 
-/// Makes a turn with the slice of this work, or of a later one if another actor has changed the work meanwhile, as a
-/// kill of the running thread does. Returns the next work.
+/// Makes a turn with the slice of this work. If another actor has changed the work meanwhile, as a kill of the running
+/// thread does, it tries the later work. Returns the next work.
 fn turn_with<T: TurnLedger, Q: Ledger, K: Ledger>(
     rt: &impl Wait,
     station: &Station<T, Q, K>,

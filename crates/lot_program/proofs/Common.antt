@@ -8,10 +8,7 @@ pub use Rattle.std.proofs.lemmas.Result.{IfOk-from_err, err_from_is_err_and}
 pub use Rattle.lot_simulation.proofs.Common.{Command, IsBetween, Program, range_with_len}
 pub use Rattle.lot_simulation.specs.Script.{without_sleep}
 pub use Rattle.lot_simulation.specs.Seeded.{seeds_from}
-pub use Rattle.lot_program.specs.Packed.{Extends, IsCommandIn, IsNameIn, IsReferenceIn, IsTargetIn, command_in, currency_in, name_in, target_in, thread_in}
+pub use Rattle.lot_program.specs.Packed.{Extends, IsCommandIn, command_in}
 pub use Rattle.lot_program.specs.Parts.{AreSeeds}
 pub use Rattle.lot_program.specs.Programs.{IsSeed}
 pub use Rattle.lot_program.specs.declared.packed.PackedCommand.{PackedCommand}
-pub use Rattle.lot_program.specs.declared.packed.PackedName.{PackedName}
-pub use Rattle.lot_program.specs.declared.packed.PackedReference.{PackedReference}
-pub use Rattle.lot_program.specs.declared.packed.PackedTarget.{PackedTarget}

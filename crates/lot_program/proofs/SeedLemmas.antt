@@ -1,4 +1,4 @@
--- Seeds that are left out.
+-- Omitted seeds.
 use Rattle.lot_program.proofs.Common.{AreSeeds, ap, arith, get_or-range_with_len, length-range_with_len, range_with_len, refl, suc, zero, ℕ, [], ◌++◌, ◌+◌, ◌<◌, ◌∷◌, ◌≡◌, ◌≤◌}
 
 -- one number more

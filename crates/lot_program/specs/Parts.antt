@@ -1,4 +1,4 @@
--- The parts that a program consists of.
+-- The parts of a program.
 use Rattle.std.specs.Prelude.{◌≡◌, ℕ, List, length, All, is_some}
 use Rattle.std.specs.Arc.{arc_slice_items}
 use Rattle.lot_machine.specs.State.{sizes_of}
@@ -12,7 +12,7 @@ pub record AreSeeds (processors : ℕ) (seeds : List ℕ) : Type 0 where
   pub count : length seeds ≡ processors
   pub each : All IsSeed seeds
 
--- the program that consists of these parts
+-- the program of these parts
 abbrev pub program_in : Parts → Program
 program_in parts = record {
   limits = sizes_of parts.limits;
@@ -25,10 +25,10 @@ program_in parts = record {
   times = arc_slice_items parts.times;
   ticket_names = parts.ticket_names;
   names = arc_slice_items parts.names;
-  strict = parts.strict;
+  options = parts.options;
 }
 
--- the program is legal, and its format has its unit, and a duration if it is timed
+-- the parts make a program: its format has its unit, and a duration if and only if it is timed
 pub record AreParts (parts : Parts) : Type 0 where
   pub program : IsProgram (program_in parts)
   pub unit : unit_of parts.format ≡ parts.limits.unit

@@ -1,18 +1,18 @@
-//! The console's commands, in little memory.
+//! The console's commands, packed.
 ghost use Rattle.std.specs.Prelude.{◌≡◌, [], ◌∷◌, ◌++◌, ◌<◌, Some, IfOk, OnErr, OnOk, length};
 ghost use Rattle.std.specs.List.{slice_get};
 
-use crate::packed::{PackedCommand, pack, unpack};
+use crate::packed::{PackedCommand, Pool, pack, unpack};
 use lot_machine::Command;
 use std::alloc::{AllocError, Global};
 use std::marker::Model;
 use std::sync::ArcSlice;
 
-/// The commands so far of an input that is being read.
+/// The commands read so far from an input.
 #[derive(Drop)]
 pub struct CommandList {
-    /// The bytes of the names.
-    pool: Vec<u8>,
+    /// The bytes of the arguments.
+    pool: Pool,
     packed: Vec<PackedCommand>,
 }
 
@@ -23,9 +23,9 @@ impl Model for CommandList {
 
     ghost Value = { List Command };
 
-    ghost view = { λ l. map (command_in l.pool.items) l.packed.items };
+    ghost view = { λ l. map (command_in l.pool.bytes) l.packed.items };
 
-    ghost invariant = { λ l. All (IsCommandIn l.pool.items) l.packed.items };
+    ghost invariant = { λ l. All (IsCommandIn l.pool.bytes) l.packed.items };
 }
 
 impl CommandList {
@@ -34,7 +34,7 @@ impl CommandList {
         ensures { result ≡ [] }
     {
         CommandList {
-            pool: Vec::new(alloc),
+            pool: Pool::new(alloc),
             packed: Vec::new(alloc),
         }
     }
@@ -46,8 +46,8 @@ impl CommandList {
         self.packed.len()
     }
 
-    /// Adds a command. It fails, and adds none, if out of memory or if the names before it have 4294967296 bytes or
-    /// more.
+    /// Adds a command. It fails, and adds none, if out of memory or if the arguments of those before it have 4294967296
+    /// bytes or more.
     pub fn push(&mut self, command: Command) -> Result<(), AllocError>
         ensures added { OnOk result (self.new ≡ self.old ++ command ∷ []) }
         ensures kept { OnErr result (self.new ≡ self.old) }
@@ -57,23 +57,25 @@ impl CommandList {
         Ok(())
     }
 
-    /// The commands, to be shared. It fails only if out of memory.
+    /// The commands as a list that copies share. It fails only if out of memory.
     pub fn into_commands(self) -> Result<Commands, AllocError>
         ensures { IfOk result (λ commands. commands ≡ self) }
     {
         let CommandList { pool, packed } = self;
         Ok(Commands {
-            pool: ArcSlice::from_vec(pool)?,
+            pool: ArcSlice::from_vec(pool.into_bytes())?,
             packed: ArcSlice::from_vec(packed)?,
         })
     }
 }
 
-/// The commands of a program, in order. A copy of the program shares them. Each takes 24 bytes and those of its names.
+/// The commands of a program, in order. A copy of the program shares them. Each takes 6 bytes and those of its
+/// arguments: 8 for an amount or a ticket, 4 for a script, 5 for a number of a currency or a thread, and 1 more than it
+/// has for a name. So `fundx 100 base t 1` takes 25.
 #[derive(Drop)]
 #[derive_where(Debug)]
 pub struct Commands {
-    /// The bytes of the names.
+    /// The bytes of the arguments.
     #[derive_where(skip)]
     pool: ArcSlice<u8>,
     #[derive_where(skip)]
@@ -101,7 +103,7 @@ impl Commands {
         self.packed.len()
     }
 
-    /// The command at this index, the first at 0. It allocates nothing.
+    /// The command at this index, from 0. It allocates nothing.
     pub fn at(&self, index: usize) -> Command
         requires within { index < length self.now }
         ensures { slice_get self.now index ≡ Some result }

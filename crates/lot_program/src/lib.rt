@@ -1,4 +1,4 @@
-//! Programs: a system, what the console does with it, and whose turns are made.
+//! Programs: a system, the console's commands, and the order of turns.
 //!
 //! Its tests stand in `lot_text_tests`.
 #![tactic(auto)]

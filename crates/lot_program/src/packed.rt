@@ -1,11 +1,19 @@
-//! Commands in little memory: their names lie in a pool of bytes, and their numbers have no alignment.
-ghost use Rattle.std.specs.Prelude.{◌≡◌, IfOk};
-ghost use Rattle.lot_program.specs.Packed.{Extends, IsCommandIn, IsNameIn, IsReferenceIn, IsTargetIn};
-ghost use Rattle.lot_program.specs.Packed.{command_in, currency_in, name_in, target_in, thread_in};
+//! Commands in little memory: a verb, and its arguments one after the other in a pool of bytes.
+ghost use Rattle.std.specs.Prelude.{◌≡◌, ◌∷◌, [], Err, IfOk, MatchResult, Ok, OnOk, length};
+ghost use Rattle.lot_program.specs.Packed.{Extends, IsCommandIn, IsReadAgain, bytes_at, command_in, filled_before};
+ghost use Rattle.lot_program.specs.Packed.{long_at, name_at, value_at, with_bytes, with_value, word_at};
 
-use lot_machine::{Command, CurrencyRef, Kind, Name, TargetRef, ThreadRef};
-use std::alloc::AllocError;
+use lot_machine::{
+    Arguments, Command, CurrencyRef, Name, Sink, TargetRef, ThreadRef, Verb, command_of, give_parts,
+};
+use std::alloc::{AllocError, Global};
 use std::marker::Model;
+
+/// What stands in the place of a name's length, which is at most 16, before a currency's number.
+const CURRENCY: u8 = 17;
+
+/// What stands in the place of a name's length before a thread's number.
+const THREAD: u8 = 18;
 
 /// A number of 32 bits, aligned like a byte.
 #[derive(Drop)]
@@ -40,275 +48,258 @@ impl Unaligned32 {
     }
 }
 
-/// A number of 64 bits, aligned like a byte.
+/// A command: its verb, and where its arguments begin in a pool.
 #[derive(Drop)]
-pub(crate) struct Unaligned64 {
-    bytes: [u8; 8],
-}
-
-impl Model for Unaligned64 {
-    ghost use Rattle.std.specs.Prelude.{ℕ};
-    ghost use Rattle.std.specs.Int.{from_le_bytes, w64};
-
-    ghost Value = { ℕ };
-
-    ghost view = { λ number. from_le_bytes w64 number.bytes };
-}
-
-impl Unaligned64 {
-    #[inline(always)]
-    fn new(number: u64) -> Self
-        ensures { result ≡ number }
-    {
-        Unaligned64 {
-            bytes: number.to_le_bytes(),
-        }
-    }
-
-    #[inline(always)]
-    fn get(&self) -> u64
-        ensures { result ≡ self.now }
-    {
-        u64::from_le_bytes(self.bytes)
-    }
-}
-
-/// The place of a name in the pool.
-#[derive(Drop)]
-pub(crate) struct PackedName {
+pub(crate) struct PackedCommand {
+    verb: Verb,
     start: Unaligned32,
-    len: u8,
 }
 
-/// A currency or a thread, by its name or by its number.
+const _: () = prove!(size_of::<PackedCommand>() == 6);
+
+/// The arguments of commands, in bytes.
 #[derive(Drop)]
-pub(crate) enum PackedReference {
-    Named(PackedName),
-    Numbered(Unaligned32),
+pub(crate) struct Pool {
+    bytes: Vec<u8>,
+    /// Where the arguments of the last command begin.
+    start: usize,
 }
 
-/// A ticket's new target.
-#[derive(Drop)]
-pub(crate) enum PackedTarget {
-    Named(PackedName),
-    Currency(Unaligned32),
-    Thread(Unaligned32),
+impl Model for Pool {
+    ghost use Rattle.std.specs.Prelude.{◌≤◌, length};
+    ghost use Rattle.lot_program.specs.Packed.{Filling};
+
+    ghost Value = { Filling };
+
+    ghost view = { λ pool. record { start = pool.start; bytes = pool.bytes.items } };
+
+    ghost invariant = { λ pool. pool.start ≤ length pool.bytes.items };
 }
 
-/// A command. Each variant has the fields of its namesake in `Command`, in the same order.
-#[derive(Drop)]
-pub(crate) enum PackedCommand {
-    MakeTicket(Unaligned64, PackedReference),
-    RemoveTicket(Unaligned64),
-    MakeCurrency(PackedName),
-    RemoveCurrency(PackedReference),
-    Fund(Unaligned64, PackedTarget),
-    Unfund(Unaligned64),
-    SetTicket(Unaligned64, Unaligned64),
-    MakeThread(PackedName, Unaligned32),
-    RemoveThread(PackedReference),
-    Kill(PackedReference),
-    MakeFunded(Unaligned64, PackedReference, PackedName, Unaligned32),
-    List(Kind),
-}
-
-const _: () = prove!(size_of::<PackedCommand>() == 24);
-
-/// Adds the name to the pool. It fails if out of memory, or if its place has no number of 32 bits.
-fn pack_name(pool: &mut Vec<u8>, name: &Name) -> Result<PackedName, AllocError>
-    ensures grows { Extends pool.old.items pool.new.items }
-    ensures within { IfOk result (IsNameIn pool.new.items) }
-    ensures same { IfOk result (λ packed. name_in pool.new.items packed ≡ name.now) }
-{
-    let bytes = name.as_bytes();
-    let start = u32::try_from(pool.len()).ok().ok_or(AllocError)?;
-    pool.extend_from_slice(bytes)?;
-    Ok(PackedName {
-        start: Unaligned32::new(start),
-        len: bytes.len() as u8,
-    })
-}
-
-/// Adds the name of the currency, if it has one, to the pool.
-fn pack_currency(pool: &mut Vec<u8>, currency: &CurrencyRef) -> Result<PackedReference, AllocError>
-    ensures grows { Extends pool.old.items pool.new.items }
-    ensures within { IfOk result (IsReferenceIn pool.new.items) }
-    ensures same { IfOk result (λ packed. currency_in pool.new.items packed ≡ currency.now) }
-{
-    match currency {
-        CurrencyRef::Named(name) => Ok(PackedReference::Named(pack_name(pool, name)?)),
-        CurrencyRef::Numbered(number) => Ok(PackedReference::Numbered(Unaligned32::new(*number))),
-    }
-}
-
-/// Adds the name of the thread, if it has one, to the pool.
-fn pack_thread(pool: &mut Vec<u8>, thread: &ThreadRef) -> Result<PackedReference, AllocError>
-    ensures grows { Extends pool.old.items pool.new.items }
-    ensures within { IfOk result (IsReferenceIn pool.new.items) }
-    ensures same { IfOk result (λ packed. thread_in pool.new.items packed ≡ thread.now) }
-{
-    match thread {
-        ThreadRef::Named(name) => Ok(PackedReference::Named(pack_name(pool, name)?)),
-        ThreadRef::Numbered(number) => Ok(PackedReference::Numbered(Unaligned32::new(*number))),
-    }
-}
-
-/// Adds the name of the target, if it has one, to the pool.
-fn pack_target(pool: &mut Vec<u8>, target: &TargetRef) -> Result<PackedTarget, AllocError>
-    ensures grows { Extends pool.old.items pool.new.items }
-    ensures within { IfOk result (IsTargetIn pool.new.items) }
-    ensures same { IfOk result (λ packed. target_in pool.new.items packed ≡ target.now) }
-{
-    match target {
-        TargetRef::Named(name) => Ok(PackedTarget::Named(pack_name(pool, name)?)),
-        TargetRef::Currency(number) => Ok(PackedTarget::Currency(Unaligned32::new(*number))),
-        TargetRef::Thread(number) => Ok(PackedTarget::Thread(Unaligned32::new(*number))),
-    }
-}
-
-/// The name, from the pool.
-#[inline(always)]
-fn unpack_name(pool: &[u8], packed: &PackedName) -> Name
-    requires { IsNameIn pool.now packed.now }
-    ensures { result ≡ name_in pool.now packed.now }
-{
-    let start = packed.start.get() as usize;
-    Name::from_bytes(&pool[start..start + packed.len as usize]).unwrap()
-}
-
-/// The currency, with its name from the pool.
-#[inline(always)]
-fn unpack_currency(pool: &[u8], packed: &PackedReference) -> CurrencyRef
-    requires { IsReferenceIn pool.now packed.now }
-    ensures { result ≡ currency_in pool.now packed.now }
-{
-    match packed {
-        PackedReference::Named(name) => CurrencyRef::Named(unpack_name(pool, name)),
-        PackedReference::Numbered(number) => CurrencyRef::Numbered(number.get()),
-    }
-}
-
-/// The thread, with its name from the pool.
-#[inline(always)]
-fn unpack_thread(pool: &[u8], packed: &PackedReference) -> ThreadRef
-    requires { IsReferenceIn pool.now packed.now }
-    ensures { result ≡ thread_in pool.now packed.now }
-{
-    match packed {
-        PackedReference::Named(name) => ThreadRef::Named(unpack_name(pool, name)),
-        PackedReference::Numbered(number) => ThreadRef::Numbered(number.get()),
-    }
-}
-
-/// The target, with its name from the pool.
-#[inline(always)]
-fn unpack_target(pool: &[u8], packed: &PackedTarget) -> TargetRef
-    requires { IsTargetIn pool.now packed.now }
-    ensures { result ≡ target_in pool.now packed.now }
-{
-    match packed {
-        PackedTarget::Named(name) => TargetRef::Named(unpack_name(pool, name)),
-        PackedTarget::Currency(number) => TargetRef::Currency(number.get()),
-        PackedTarget::Thread(number) => TargetRef::Thread(number.get()),
-    }
-}
-
-/// Adds the names of the command to the pool. If out of memory, the pool may have some of them.
-pub(crate) fn pack(pool: &mut Vec<u8>, command: &Command) -> Result<PackedCommand, AllocError>
-    ensures grows { Extends pool.old.items pool.new.items }
-    ensures within { IfOk result (IsCommandIn pool.new.items) }
-    ensures same { IfOk result (λ packed. command_in pool.new.items packed ≡ command.now) }
-{
-    match command {
-        Command::MakeTicket { amount, currency } => Ok(PackedCommand::MakeTicket(
-            Unaligned64::new(*amount),
-            pack_currency(pool, currency)?,
-        )),
-        Command::RemoveTicket { ticket } => {
-            Ok(PackedCommand::RemoveTicket(Unaligned64::new(*ticket)))
+impl Pool {
+    /// No arguments. It allocates nothing.
+    pub(crate) fn new(alloc: Global) -> Self
+        ensures { result.bytes ≡ [] }
+    {
+        Pool {
+            bytes: Vec::new(alloc),
+            start: 0,
         }
-        Command::MakeCurrency { name } => Ok(PackedCommand::MakeCurrency(pack_name(pool, name)?)),
-        Command::RemoveCurrency { currency } => Ok(PackedCommand::RemoveCurrency(pack_currency(
-            pool, currency,
-        )?)),
-        Command::Fund { ticket, target } => Ok(PackedCommand::Fund(
-            Unaligned64::new(*ticket),
-            pack_target(pool, target)?,
-        )),
-        Command::Unfund { ticket } => Ok(PackedCommand::Unfund(Unaligned64::new(*ticket))),
-        Command::SetTicket { ticket, amount } => Ok(PackedCommand::SetTicket(
-            Unaligned64::new(*ticket),
-            Unaligned64::new(*amount),
-        )),
-        Command::MakeThread { name, script } => Ok(PackedCommand::MakeThread(
-            pack_name(pool, name)?,
-            Unaligned32::new(*script),
-        )),
-        Command::RemoveThread { thread } => {
-            Ok(PackedCommand::RemoveThread(pack_thread(pool, thread)?))
-        }
-        Command::Kill { thread } => Ok(PackedCommand::Kill(pack_thread(pool, thread)?)),
-        Command::MakeFunded {
-            amount,
-            currency,
-            name,
-            script,
-        } => Ok(PackedCommand::MakeFunded(
-            Unaligned64::new(*amount),
-            pack_currency(pool, currency)?,
-            pack_name(pool, name)?,
-            Unaligned32::new(*script),
-        )),
-        Command::List(kind) => Ok(PackedCommand::List(*kind)),
+    }
+
+    /// Its bytes.
+    pub(crate) fn into_bytes(self) -> Vec<u8>
+        ensures { result.items ≡ self.bytes }
+    {
+        let Pool { bytes, start: _ } = self;
+        bytes
+    }
+
+    /// Begins another command: its place. It fails if this has no number of 32 bits.
+    fn begin(&mut self) -> Result<Unaligned32, AllocError>
+        ensures place { IfOk result (λ start. start ≡ length self.old.bytes) }
+        ensures start { OnOk result (self.new.start ≡ length self.old.bytes) }
+        ensures same { self.new.bytes ≡ self.old.bytes }
+    {
+        let len = self.bytes.len();
+        let start = u32::try_from(len).ok().ok_or(AllocError)?;
+        self.start = len;
+        Ok(Unaligned32::new(start))
+    }
+
+    /// Adds these bytes.
+    #[inline(always)]
+    fn add(&mut self, bytes: &[u8]) -> Result<(), AllocError>
+        ensures added { OnOk result (self.new ≡ with_bytes self.old bytes.now) }
+        ensures before { filled_before self.new ≡ filled_before self.old }
+    {
+        self.bytes.extend_from_slice(bytes)
+    }
+
+    /// Adds this byte and these.
+    #[inline(always)]
+    fn add_behind(&mut self, tag: u8, bytes: &[u8]) -> Result<(), AllocError>
+        ensures added { OnOk result (self.new ≡ with_bytes self.old (tag ∷ bytes.now)) }
+        ensures before { filled_before self.new ≡ filled_before self.old }
+    {
+        self.bytes.push(tag)?;
+        self.add(bytes)
     }
 }
 
-/// The command, with its names from the pool.
+impl Sink for Pool {
+    type Refusal = AllocError;
+
+    ghost after = { with_value };
+
+    ghost taken = { IsReadAgain };
+
+    ghost kept = { filled_before };
+
+    fn put_amount(&mut self, amount: u64) -> Result<(), AllocError> {
+        self.add(&amount.to_le_bytes())
+    }
+
+    fn put_ticket(&mut self, ticket: u64) -> Result<(), AllocError> {
+        self.add(&ticket.to_le_bytes())
+    }
+
+    fn put_currency(&mut self, currency: &CurrencyRef) -> Result<(), AllocError> {
+        match currency {
+            CurrencyRef::Named(name) => self.put_name(name),
+            CurrencyRef::Numbered(number) => self.add_behind(CURRENCY, &number.to_le_bytes()),
+        }
+    }
+
+    fn put_target(&mut self, target: &TargetRef) -> Result<(), AllocError> {
+        match target {
+            TargetRef::Named(name) => self.put_name(name),
+            TargetRef::Currency(number) => self.add_behind(CURRENCY, &number.to_le_bytes()),
+            TargetRef::Thread(number) => self.add_behind(THREAD, &number.to_le_bytes()),
+        }
+    }
+
+    fn put_thread(&mut self, thread: &ThreadRef) -> Result<(), AllocError> {
+        match thread {
+            ThreadRef::Named(name) => self.put_name(name),
+            ThreadRef::Numbered(number) => self.add_behind(THREAD, &number.to_le_bytes()),
+        }
+    }
+
+    fn put_name(&mut self, name: &Name) -> Result<(), AllocError> {
+        let bytes = name.as_bytes();
+        self.add_behind(bytes.len() as u8, bytes)
+    }
+
+    fn put_script(&mut self, script: u32) -> Result<(), AllocError> {
+        self.add(&script.to_le_bytes())
+    }
+}
+
+/// The bytes from an argument on. A read fails if they end before what it reads.
+#[derive(Drop)]
+pub(crate) struct Rest<'a> {
+    bytes: &'a [u8],
+}
+
+impl<'a> Model for Rest<'a> {
+    ghost use Rattle.std.specs.Prelude.{List, ℕ};
+
+    ghost Value = { List ℕ };
+
+    ghost view = { λ rest. rest.bytes.now };
+}
+
+impl Rest<'_> {
+    /// The next byte.
+    #[inline(always)]
+    fn byte(&mut self) -> Result<u8, ()>
+        ensures { MatchResult result (λ byte. self.old ≡ byte ∷ self.new) (λ _. self.old ≡ []) }
+    {
+        let (byte, rest) = self.bytes.split_first().ok_or(())?;
+        self.bytes = rest;
+        Ok(*byte)
+    }
+
+    /// The number of 64 bits that comes next.
+    #[inline(always)]
+    fn long(&mut self) -> Result<u64, ()>
+        ensures { MatchResult result (λ number. long_at self.old ≡ Ok (number, self.new))
+            (λ missing. long_at self.old ≡ Err missing) }
+    {
+        let (bytes, rest) = self.bytes.split_first_chunk().ok_or(())?;
+        self.bytes = rest;
+        Ok(u64::from_le_bytes(*bytes))
+    }
+
+    /// The number of 32 bits that comes next.
+    #[inline(always)]
+    fn word(&mut self) -> Result<u32, ()>
+        ensures { MatchResult result (λ number. word_at self.old ≡ Ok (number, self.new))
+            (λ missing. word_at self.old ≡ Err missing) }
+    {
+        let (bytes, rest) = self.bytes.split_first_chunk().ok_or(())?;
+        self.bytes = rest;
+        Ok(u32::from_le_bytes(*bytes))
+    }
+
+    /// The name of this length that comes next. It also fails if no name is so long.
+    #[inline(always)]
+    fn name_of(&mut self, len: u8) -> Result<Name, ()>
+        ensures { MatchResult result (λ name. name_at len self.old ≡ Ok (name, self.new))
+            (λ missing. name_at len self.old ≡ Err missing) }
+    {
+        let (bytes, rest) = self.bytes.split_at_checked(len as usize).ok_or(())?;
+        self.bytes = rest;
+        Name::from_bytes(bytes).ok_or(())
+    }
+}
+
+impl Arguments for Rest<'_> {
+    type Refusal = ();
+
+    ghost gives = { value_at };
+
+    fn amount(&mut self) -> Result<u64, ()> {
+        self.long()
+    }
+
+    fn ticket(&mut self) -> Result<u64, ()> {
+        self.long()
+    }
+
+    fn currency(&mut self) -> Result<CurrencyRef, ()> {
+        match self.byte()? {
+            CURRENCY => Ok(CurrencyRef::Numbered(self.word()?)),
+            len => Ok(CurrencyRef::Named(self.name_of(len)?)),
+        }
+    }
+
+    fn target(&mut self) -> Result<TargetRef, ()> {
+        match self.byte()? {
+            CURRENCY => Ok(TargetRef::Currency(self.word()?)),
+            THREAD => Ok(TargetRef::Thread(self.word()?)),
+            len => Ok(TargetRef::Named(self.name_of(len)?)),
+        }
+    }
+
+    fn thread(&mut self) -> Result<ThreadRef, ()> {
+        match self.byte()? {
+            THREAD => Ok(ThreadRef::Numbered(self.word()?)),
+            len => Ok(ThreadRef::Named(self.name_of(len)?)),
+        }
+    }
+
+    fn name(&mut self) -> Result<Name, ()> {
+        let len = self.byte()?;
+        self.name_of(len)
+    }
+
+    fn script(&mut self) -> Result<u32, ()> {
+        self.word()
+    }
+}
+
+/// Adds the arguments of the command to the pool. It fails if out of memory, and the pool may then have some of them,
+/// or if their place has no number of 32 bits.
+pub(crate) fn pack(pool: &mut Pool, command: &Command) -> Result<PackedCommand, AllocError>
+    ensures grows { Extends pool.old.bytes pool.new.bytes }
+    ensures within { IfOk result (IsCommandIn pool.new.bytes) }
+    ensures same { IfOk result (λ packed. command_in pool.new.bytes packed ≡ command.now) }
+{
+    let start = pool.begin()?;
+    let verb = give_parts(command, pool)?;
+    Ok(PackedCommand { verb, start })
+}
+
+/// The command, with its arguments from the pool.
 pub(crate) fn unpack(pool: &[u8], packed: &PackedCommand) -> Command
     requires { IsCommandIn pool.now packed.now }
     ensures { result ≡ command_in pool.now packed.now }
 {
-    match packed {
-        PackedCommand::MakeTicket(amount, currency) => Command::MakeTicket {
-            amount: amount.get(),
-            currency: unpack_currency(pool, currency),
-        },
-        PackedCommand::RemoveTicket(ticket) => Command::RemoveTicket {
-            ticket: ticket.get(),
-        },
-        PackedCommand::MakeCurrency(name) => Command::MakeCurrency {
-            name: unpack_name(pool, name),
-        },
-        PackedCommand::RemoveCurrency(currency) => Command::RemoveCurrency {
-            currency: unpack_currency(pool, currency),
-        },
-        PackedCommand::Fund(ticket, target) => Command::Fund {
-            ticket: ticket.get(),
-            target: unpack_target(pool, target),
-        },
-        PackedCommand::Unfund(ticket) => Command::Unfund {
-            ticket: ticket.get(),
-        },
-        PackedCommand::SetTicket(ticket, amount) => Command::SetTicket {
-            ticket: ticket.get(),
-            amount: amount.get(),
-        },
-        PackedCommand::MakeThread(name, script) => Command::MakeThread {
-            name: unpack_name(pool, name),
-            script: script.get(),
-        },
-        PackedCommand::RemoveThread(thread) => Command::RemoveThread {
-            thread: unpack_thread(pool, thread),
-        },
-        PackedCommand::Kill(thread) => Command::Kill {
-            thread: unpack_thread(pool, thread),
-        },
-        PackedCommand::MakeFunded(amount, currency, name, script) => Command::MakeFunded {
-            amount: amount.get(),
-            currency: unpack_currency(pool, currency),
-            name: unpack_name(pool, name),
-            script: script.get(),
-        },
-        PackedCommand::List(kind) => Command::List(*kind),
-    }
+    let start = packed.start.get() as usize;
+    let mut arguments = Rest {
+        bytes: &pool[start..],
+    };
+    command_of(packed.verb, &mut arguments).unwrap()
 }

@@ -1,4 +1,4 @@
-//! A program, which an engine plays.
+//! A program, which the engine plays.
 ghost use Rattle.std.specs.Prelude.{◌≡◌, is_some, map, IfOk};
 ghost use Rattle.lot_machine.specs.State.{sizes_of};
 ghost use Rattle.lot_simulation.specs.Formats.{is_timed, unit_of};
@@ -11,12 +11,12 @@ ghost use Rattle.lot_program.specs.Programs.{IsProgram};
 use crate::{Commands, Seed};
 use lot_machine::Limits;
 use lot_script::Script;
-use lot_simulation::Format;
+use lot_simulation::{Format, Options};
 use std::alloc::{AllocError, Global};
 use std::marker::Model;
 use std::sync::ArcSlice;
 
-/// What a program consists of, which `Program::new` puts together. `Program` says of each part what it means.
+/// The parts of a program, for `Program::new`. The methods of `Program` say what each means.
 #[derive(Debug, Drop)]
 pub struct Parts {
     pub format: Format,
@@ -30,7 +30,7 @@ pub struct Parts {
     pub times: ArcSlice<u32>,
     pub ticket_names: u32,
     pub names: ArcSlice<Option<u16>>,
-    pub strict: bool,
+    pub options: Options,
 }
 
 /// A system and its commands; the turns of each processor in a free run, and the schedule; or the duration, if the
@@ -59,7 +59,7 @@ impl Model for Program {
 }
 
 impl Program {
-    /// The program that consists of these parts.
+    /// The program of these parts.
     pub fn new(parts: Parts) -> Program
         requires { AreParts parts }
         ensures { result ≡ program_in parts }
@@ -77,7 +77,7 @@ impl Program {
         self.parts.format
     }
 
-    /// The sizes of the tables, the number of processors, the quantum and the unit.
+    /// The kernel's limits: tables, processors, the quantum, the unit, and departures from the paper.
     pub fn limits(&self) -> Limits
         ensures limits { sizes_of result ≡ self.now.limits }
         ensures legal { IsProgram self.now }
@@ -134,7 +134,7 @@ impl Program {
         self.parts.duration
     }
 
-    /// The tick of each command, if the program is timed, and otherwise none. They never decrease.
+    /// The tick of each command in a timed program, none in another one. Times never decrease.
     pub fn times(&self) -> &[u32]
         ensures times { result.now ≡ self.now.times }
         ensures legal { IsProgram self.now }
@@ -142,7 +142,7 @@ impl Program {
         self.parts.times.as_slice()
     }
 
-    /// How many names tickets can have, at most 4096.
+    /// The number of names that tickets can have, at most 4096.
     pub fn ticket_names(&self) -> u32
         ensures ticket_names { result ≡ self.now.ticket_names }
         ensures legal { IsProgram self.now }
@@ -150,7 +150,7 @@ impl Program {
         self.parts.ticket_names
     }
 
-    /// The number of the name that each command has for its ticket, if the program is timed, and otherwise none.
+    /// For each command of a timed program, the number of the name that it has for its ticket; none in another program.
     pub fn names(&self) -> &[Option<u16>]
         ensures names { result.now ≡ self.now.names }
         ensures legal { IsProgram self.now }
@@ -158,16 +158,16 @@ impl Program {
         self.parts.names.as_slice()
     }
 
-    /// Whether a refused command or trap ends the play of a timed program.
-    pub fn is_strict(&self) -> bool
-        ensures strict { result ≡ self.now.strict }
+    /// What the header chooses. The limits have the part of the kernel.
+    pub fn options(&self) -> Options
+        ensures options { result ≡ self.now.options }
         ensures legal { IsProgram self.now }
     {
-        self.parts.strict
+        self.parts.options
     }
 
-    /// A copy of the program without time, as a free run makes it: each `sleep` ends at once, so it is a `yield`. It
-    /// fails only if out of memory.
+    /// A copy of the program for a free run, which has no time: each `sleep` ends at once, so it is a `yield`. It fails
+    /// only if out of memory.
     pub fn without_time(&self, alloc: Global) -> Result<Program, AllocError>
         ensures { IfOk result (λ program. program ≡ without_time self.now) }
     {
@@ -176,8 +176,8 @@ impl Program {
         Ok(copy)
     }
 
-    /// The program with other seeds, if one is given: processor 1 has the given one, and each further processor the
-    /// next value of the generator that mixes seeds. It fails only if out of memory.
+    /// The program with seeds computed from the given one, if there is one: processor 1 has that seed, and each further
+    /// processor the next value of the generator that mixes seeds (4.1). It fails only if out of memory.
     pub fn with_seed(self, alloc: Global, seed: Option<Seed>) -> Result<Program, AllocError>
         ensures { IfOk result (λ program. program ≡ with_seed seed self) }
     {
@@ -188,8 +188,8 @@ impl Program {
         Ok(program)
     }
 
-    /// A copy of the program. It shares the commands with their times and names and the schedule with this one, since
-    /// no program ever changes them. It fails only if out of memory.
+    /// A copy of the program. The copies share the schedule and the commands with their times and names, which no
+    /// program changes. It fails only if out of memory.
     pub fn copied(&self, alloc: Global) -> Result<Program, AllocError>
         ensures { IfOk result (λ program. program ≡ self.now) }
     {
@@ -207,13 +207,13 @@ impl Program {
                 times: parts.times.clone()?,
                 ticket_names: parts.ticket_names,
                 names: parts.names.clone()?,
-                strict: parts.strict,
+                options: parts.options,
             },
         })
     }
 }
 
-/// The seeds of so many processors, computed from this one.
+/// The seeds of this many processors, computed from this one.
 fn seeds_from(alloc: Global, seed: Seed, processors: u32) -> Result<Vec<u32>, AllocError>
     ensures from { IfOk result (λ s. s.items ≡ seeds_from processors seed) }
     ensures seeds { IfOk result (λ s. AreSeeds processors s.items) }

@@ -1,4 +1,4 @@
-//! Seeds that are given beside an input.
+//! Seeds given beside an input.
 ghost use Rattle.std.specs.Prelude.{◌≡◌, IfNone, IfSome};
 ghost use Rattle.lot_program.specs.Programs.{IsSeed};
 
@@ -25,7 +25,7 @@ impl Model for Seed {
 }
 
 impl Seed {
-    /// The seed with this number, or `None` if it is out of range.
+    /// The seed with this number, or `None` if the number is not from 1 to 2147483646.
     pub fn new(number: u32) -> Option<Seed>
         ensures seed { IfSome result (λ seed. seed ≡ number) }
         ensures none { IfNone result (IsSeed number → ⊥) }
@@ -36,7 +36,7 @@ impl Seed {
         Some(Seed { number })
     }
 
-    /// Its number.
+    /// The seed as a number, 1 to 2147483646.
     pub fn number(self) -> u32
         ensures is { result ≡ self }
         ensures legal { IsSeed result }

@@ -1,4 +1,4 @@
--- What a caller of `Queues` rests on: lemmas over variables.
+-- The facts that a caller of `Queues` needs: lemmas over variables.
 use Rattle.lot_queues.proofs.Common.{Contains, HasQueues, IsNowhere, IsQueue, IsThere, IsTrue, IsWaiter, List, Mutex, None, Option, Port, QueueLists, Queued, QueuedCall, Receiving, Record, Running, Served, Some, Status, Waiting, ap, arith, at_number, at_number-suc, drop, false, get_or, get_or-set_same, get_or_from_slice_get, is_dead, is_live_status, length, map, mutex_at, refl, set, set_number, slice_get, slice_get_read, slice_get_within, some-injective, status_of, suc, sym, true, unwrap_or, unwrap_or-slice_get, with_owner, with_waiters, zero, ℕ, [], ◌-◌, ◌||◌, ◌∙◌, ◌∷◌, ◌≡◌}
 use Rattle.lot_queues.proofs.Elements.{contains-nothing}
 

@@ -1,4 +1,4 @@
--- What becomes of the queues if one of the lists changes.
+-- The queues after a change of one of the lists.
 use Rattle.lot_queues.proofs.Common.{Contains, Fields, IsConsistent, IsFree, IsLaidOut, List, Mutex, NodeLists, Option, Port, QueueLists, QueuedCall, ap, ap₂, arith, call_of, calls_list, cases_eq, clients_in, get_or-set_other, get_or-set_same, inl, inr, length, length-set, map, mutex_in, nodes_of, port_in, receivers_list, refl, relisted, set, set_number, subst, sym, waiters_list, with_calls, with_receivers, with_waiters, ℕ, [], ◌+◌, ◌-◌, ◌<◌, ◌∙◌, ◌≡◌, ◌≤◌, ◌⊎◌}
 use Rattle.lot_queues.specs.Fields.{seen}
 use Rattle.lot_queues.proofs.Elements.{calls-kept}

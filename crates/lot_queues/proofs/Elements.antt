@@ -1,4 +1,4 @@
--- What a list of nodes contains, and the list of their threads.
+-- The elements of a list of nodes, and the list of their threads.
 use Rattle.lot_queues.proofs.Common.{Contains, Contains-append_cases, Contains-append_left, Contains-append_right, List, QueuedCall, ap, ap₂, arith, call_of, drop, get_or, get_or-map, get_or-set_other, get_or_default, inl, inr, length, length-map, map, refl, remove, set, subst, suc, sym, take, take-append-drop, zero, ℕ, [], ◌++◌, ◌+◌, ◌-◌, ◌<◌, ◌∙◌, ◌∷◌, ◌≡◌, ◌⊎◌}
 pub use Rattle.lot_machine.proofs.EachOnce.{contains-nothing}
 

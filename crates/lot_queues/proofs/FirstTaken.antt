@@ -1,4 +1,4 @@
--- What a call shows that takes the first thread of a queue, whichever queue it is.
+-- The result of taking the first thread of a queue, for any queue.
 use Rattle.lot_queues.proofs.Common.{Fields, IfNone, IfSome, IsFree, IsNowhere, IsThere, List, NodeLists, None, Option, QueueLists, Some, ap, drop, length, node_at, nodes_of, option_map, refl, relisted, seen, set-get_or, slice_get, subst, sym, ℕ, [], ◌+◌, ◌<◌, ◌∙◌, ◌∷◌, ◌≡◌}
 use Rattle.lot_queues.proofs.Changed.{with_lists}
 use Rattle.lot_queues.proofs.Holds.{Holds, itself}

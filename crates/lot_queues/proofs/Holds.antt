@@ -1,4 +1,4 @@
--- The fields against the value that clauses see, as each method opens and closes it.
+-- The fields against the value in contracts, as each method opens and closes it.
 use Rattle.lot_queues.proofs.Common.{Contains, Fields, IsConsistent, IsFree, IsLaidOut, IsNowhere, IsThere, Layout, List, Mutex, NodeLists, None, Option, Port, QueueLists, QueuedCall, ap, ap₂, arith, call_of, calls_list, cases_lt, clients_in, clients_of, empty_lists, empty_queues, get_or, get_or-map, get_or-map-range_with_len, get_or-replicate, get_or-set_other, get_or-set_same, get_or_default, get_or_past, inl, inr, length, length-map, length-replicate, length-set, list_count, map, mutex_at, mutex_in, nodes_of, port_at, port_in, receivers_list, refl, relisted, replicate, same_lists, set, set_number, slice_index_or, subst, sym, threads_in, waiters_list, with_calls, with_owner, with_receivers, with_waiters, ℕ, [], ◌++◌, ◌+◌, ◌-◌, ◌<◌, ◌∙◌, ◌∷◌, ◌≡◌, ◌≤◌}
 use Rattle.lot_queues.specs.Fields.{seen}
 use Rattle.lot_queues.proofs.Elements.{contains-nothing}

@@ -1,4 +1,4 @@
--- Each queue is one of the lists, so a thread that stands in no queue is in no list, and the other way round.
+-- Each queue is one of the lists, so a thread in no queue is in no list, and the other way round.
 use Rattle.lot_queues.proofs.Common.{Contains, Fields, IsFree, IsLaidOut, IsNowhere, IsThere, List, Mutex, NodeLists, None, Option, Port, QueuedCall, ap, arith, callers_at, calls_list, cases_lt, clients_in, clients_of, get_or_past, inl, inr, length, map, mutex_at, mutex_in, nodes_of, port_at, port_in, receivers_list, refl, subst, suc, sym, threads_in, unwrap_or, waiters_list, zero, ℕ, [], ◌+◌, ◌-◌, ◌<◌, ◌∙◌, ◌≡◌, ◌≤◌, ◌⊎◌}
 use Rattle.lot_queues.specs.Fields.{seen}
 use Rattle.lot_queues.proofs.Elements.{contains-nothing, contains-thread, contains-node, callers}

@@ -1,4 +1,4 @@
--- A thread that is put after those of a queue.
+-- A thread added at the end of a queue.
 use Rattle.lot_queues.proofs.Common.{Contains, Contains-push_cases, Fields, IsConsistent, IsFree, IsNowhere, IsThere, List, NodeLists, QueueLists, QueuedCall, ap, ap₂, arith, call_of, calls_list, clients_of, get_or-set_same, inl, inr, length-set, map, mutex_at, nodes_of, port_at, receivers_list, set, slice_index, subst, sym, threads_in, waiters_list, with_calls, with_client, with_pushed, with_receivers, with_waiters, ℕ, [], ◌++◌, ◌+◌, ◌-◌, ◌<◌, ◌∙◌, ◌∷◌, ◌≡◌}
 use Rattle.lot_queues.proofs.Elements.{map-push}
 use Rattle.lot_queues.proofs.Changed.{with_lists, sent-kept}

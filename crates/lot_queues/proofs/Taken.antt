@@ -1,4 +1,4 @@
--- A thread that is taken from a queue.
+-- A thread taken from a queue.
 use Rattle.lot_queues.proofs.Common.{Bool, Contains, Fields, IfNone, IfSome, IsConsistent, IsFree, IsListed, IsNowhere, IsThere, IsTrue, IsWaiter, List, Mutex, NodeLists, None, Option, QueueLists, QueuedCall, Some, TakenCall, ap, ap₂, arith, at_number, at_number-suc, call_of, calls_list, cases_lt, clients_of, drop, false, get_or_from_slice_get, inl, inr, is_some, length, map, mutex_at, node_at, nodes_of, not, option_map, port_at, receivers_list, refl, relisted, remove, set_number, slice_get, slice_get-map, slice_get_past, slice_get_read, slice_get_within, some-injective, subst, suc, sym, threads_in, true, unwrap_or, waiters_list, with_calls, with_receivers, with_removed, with_waiters, zero, ℕ, [], ◌+◌, ◌-◌, ◌<◌, ◌^◌, ◌∙◌, ◌≡◌, ◌≤◌}
 use Rattle.lot_queues.proofs.Elements.{contains-drop, contains-remove, contains-node, map-drop, map-remove}
 use Rattle.lot_queues.proofs.Nowhere.{away-to, away-less}

@@ -1,4 +1,4 @@
--- A thread that is taken out of its queue, wherever it stands.
+-- A thread taken out of its queue, from any index.
 use Rattle.lot_queues.proofs.Common.{Bool, Contains, Fields, HasSameSize, IfNone, IfSome, IsConsistent, IsFree, IsLaidOut, IsNowhere, IsThere, List, Mutex, NodeLists, None, Option, Port, QueueLists, QueuedCall, Some, ap, ap₂, arith, call_of, calls_list, cases_eq, cases_lt, clients_in, cond, contains-at, eq-eqb, eqb-false, eqb-true, false, filter, filter-was, get_or_past, inl, inr, is_some, length, list_count, map, mutex_in, ne_eqb, node_at, nodes_of, not, place-in, port_in, port_without, queues_without, range_with_len, receivers_list, refl, remove, slice_get, some-injective, subst, suc, sym, threads_in, true, waiters_list, with_removed, without, without-absent, zero, ℕ, [], ◌+◌, ◌-◌, ◌<◌, ◌==◌, ◌∙◌, ◌∷◌, ◌≡◌, ◌≤◌, ◌⊎◌}
 use Rattle.lot_queues.specs.Fields.{seen}
 use Rattle.lot_queues.proofs.Tables.{table, table-same}

@@ -1,4 +1,4 @@
--- The queues as the contracts of `Queues` see them, in terms of the machine's definitions.
+-- The queues in the contracts of `Queues`, in terms of the machine's definitions.
 use Rattle.std.specs.Prelude.{ℕ, ◌<◌, ◌≤◌, List, [], Option, None, Contains, length, map, replicate}
 use Rattle.lot_machine.specs.Numbered.{set_number}
 use Rattle.lot_machine.specs.State.{Port, Mutex, QueuedCall}
@@ -12,7 +12,7 @@ pub record QueueLists : Type 0 where
   pub clients : List (List ℕ)
   pub ports : List Port
   pub mutexes : List Mutex
-  pub room : ℕ  -- the largest number of threads
+  pub room : ℕ  -- the capacity, in threads
 
 -- the queues at the start: no threads, empty ports, free mutexes
 abbrev pub empty_queues : ℕ → ℕ → ℕ → QueueLists

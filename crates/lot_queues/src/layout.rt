@@ -1,4 +1,7 @@
-//! The list of each queue.
+//! The list of each queue. With a limit of r threads, p ports and m mutexes:
+//!
+//!     list    0 .. r - 1           r .. r + p - 1   r + p .. r + 2p - 1   r + 2p .. r + 2p + m - 1
+//!     queue   clients of threads   calls at ports   receivers at ports    waiters for mutexes
 ghost use Rattle.std.specs.Prelude.{◌≡◌, ◌-◌, ◌<◌};
 ghost use Rattle.lot_queues.specs.Fields as fields;
 

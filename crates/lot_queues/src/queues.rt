@@ -20,7 +20,7 @@ use std::alloc::{AllocError, Global};
 use std::marker::Model;
 use std::mem::size_of;
 
-// The memory for the number that a thread sent, and for a mutex's owner.
+// The bytes of the number that a thread sent, and of a mutex's owner.
 const SENT_BYTES: u64 = size_of::<u32>() as u64;
 
 const OWNER_BYTES: u64 = size_of::<Option<u32>>() as u64;
@@ -81,7 +81,7 @@ impl Model for Queues {
 }
 
 impl Queues {
-    /// Empty ports and free mutexes, and room for this many threads, of which there are none yet.
+    /// Empty ports and free mutexes, with capacity for `threads` threads, and none of them made.
     ///
     /// Fails with `AllocError` if out of memory, or if a `u32` can't number the queues and the threads together.
     pub fn new(alloc: Global, ports: u32, mutexes: u32, threads: u32) -> Result<Self, AllocError>
@@ -101,7 +101,7 @@ impl Queues {
         })
     }
 
-    /// The total of bytes that `new` requests from the allocator.
+    /// The number of bytes that `new` requests from the allocator.
     pub fn bytes(ports: u32, mutexes: u32, threads: u32) -> u64
         ensures { result ≡ 16 * ports + 16 * mutexes + 24 * threads }
     {
@@ -115,7 +115,7 @@ impl Queues {
             + OWNER_BYTES * mutexes as u64
     }
 
-    /// The bytes that it has room for: those that `new` requested, whatever has happened since.
+    /// The capacity in bytes: always exactly what `new` requested.
     pub fn held(&self) -> u64
         ensures { result ≡ 16 * length self.now.ports + 16 * length self.now.mutexes + 24 * self.now.room }
     {
@@ -124,7 +124,7 @@ impl Queues {
             + OWNER_BYTES * self.owners.room() as u64
     }
 
-    /// The largest number of threads.
+    /// The capacity, in threads.
     pub fn room(&self) -> u32
         ensures { result ≡ self.now.room }
     {
@@ -160,7 +160,7 @@ impl Queues {
         self.threads += 1;
     }
 
-    /// Whether a thread is in no queue, as the calls that put it into one require.
+    /// Whether a thread is in no queue, which calls that add it to a queue require.
     pub fn is_nowhere(&self, thread: u32) -> bool
         requires { IsThere self.now.clients thread }
         ensures { IsTrue result ↔ IsNowhere self.now thread }
@@ -231,7 +231,7 @@ impl Queues {
         thread_of(node)
     }
 
-    /// The client that gets a thread's next reply, which is the one taken first, or `None` if the thread serves nobody.
+    /// The client that gets a thread's next reply, the one taken first, or `None` if the thread serves nobody.
     pub fn first_client(&self, server: u32) -> Option<u32>
         requires { IsThere self.now.clients server }
         ensures { result ≡ machine.first_client self.now.clients server }
@@ -281,7 +281,7 @@ impl Queues {
         &self.owners
     }
 
-    /// Makes a thread the owner of a mutex; `None` makes the mutex free.
+    /// Sets the owner of a mutex; `None` frees it.
     pub fn set_owner(&mut self, mutex: u32, owner: Option<u32>)
         requires { IsThere self.old.mutexes mutex }
         ensures { self.new ≡ record self.old { mutexes = with_owner self.old.mutexes mutex owner } }
@@ -327,8 +327,7 @@ impl Queues {
         self.lists.remove(node_of(thread));
     }
 
-    /// Takes a thread out of its queue, if it is in one: it calls, receives and waits no longer, and no thread serves
-    /// it.
+    /// Takes a thread out of its queue, if it is in one: its call, receive or wait ends, and no thread serves it.
     pub fn take_out(&mut self, thread: u32)
         requires { IsThere self.old.clients thread }
         ensures out { self.new ≡ queues_without self.old thread }
@@ -337,8 +336,7 @@ impl Queues {
         remove_listed(&mut self.lists, node_of(thread));
     }
 
-    /// Stores in `out` the threads that wait for a mutex, the one that has waited longest first. It allocates
-    /// nothing.
+    /// Stores in `out` the threads that wait for a mutex, the longest wait first. It allocates nothing.
     pub fn list_waiters(&self, mutex: u32, out: &mut Stack<u32>)
         requires mutex_there { IsThere self.now.mutexes mutex }
         requires room { self.now.room ≤ out.old.room }
@@ -377,7 +375,6 @@ fn remove_listed(lists: &mut Lists, node: usize)
     lists.remove(node);
 }
 
-/// The thread of a node.
 fn thread_of(node: Option<usize>) -> Option<u32>
     requires { IfSome node (λ n. n + 1 < 2 ^ 32) }
     ensures { result ≡ option_map (λ n. n + 1) node }

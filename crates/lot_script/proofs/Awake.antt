@@ -1,5 +1,5 @@
 -- A script whose sleeps are yields is a script.
-use Rattle.lot_script.proofs.Common.{All, All-cons, All-head, All-nil, All-tail, CanNest, IsLine, IsScript, List, Nests, ScriptLine, Sleep, Yield, ap, arith, fold, length, length-map, loops_after, map, open_count, refl, without_sleep, ℕ, [], ◌<◌, ◌∙◌, ◌∷◌, ◌≡◌, ◌≤◌}
+use Rattle.lot_script.proofs.Common.{All, All-cons, All-head, All-nil, All-tail, CanNest, IsLine, IsScript, List, Nests, ScriptLine, Sleep, ap, arith, fold, length, length-map, loops_after, map, open_count, refl, without_sleep, ℕ, [], ◌<◌, ◌∙◌, ◌∷◌, ◌≡◌, ◌≤◌}
 use Rattle.lot_simulation.specs.declared.script.ScriptLine.TheVariants as line
 
 is-line : (l : ScriptLine) → IsLine l → IsLine (without_sleep l)

@@ -13,8 +13,8 @@ pub use Rattle.lot_machine.proofs.Common.{cases_lt, get_or_from_slice_get, slice
 pub use Rattle.lot_simulation.specs.Script.{Item, Pieces, accumulated, first_of_list, is_mark, items_of, pieces, rest_after, slice, trap_of, unrolled, without_sleep}
 pub use Rattle.lot_simulation.specs.Script.Item.{Add, Set, Traps, Work}
 pub use Rattle.lot_simulation.specs.declared.script.ScriptLine.{ScriptLine}
-pub use Rattle.lot_simulation.specs.declared.script.ScriptTrap.{ScriptTrap}
-pub use Rattle.lot_simulation.specs.declared.script.ScriptTrap.TheVariants.{AtPort, Exit, OnMutex, Reply, Sleep, Yield}
+pub use Rattle.lot_machine.specs.Actions.{ScriptTrap}
+pub use Rattle.lot_machine.specs.declared.trap.Trap.TheVariants.{Exit, Sleep}
 pub use Rattle.lot_script.specs.Drafts.{CanNest, Draft, IsDraft, IsLine, IsScript, Nests, loops_after, open_count, pushed}
 pub use Rattle.lot_script.specs.Places.{AreCopies, CanBeDone, Fits, IsCopy, IsRestOf, MakesTrap, Passes, Place, Stands, after_end, context_at, first_place, left_of, open_after, open_after_lines, open_at, rest_at}
 pub use Rattle.lot_script.specs.contracts.open_loops.OpenLoopPartialEq.TheImpl.{eq-value}

@@ -1,4 +1,4 @@
--- A slice is the front of what is left.
+-- A slice is a prefix of the rest.
 use Rattle.lot_script.proofs.Common.{Add, Item, List, MakesTrap, None, Passes, Place, ScriptLine, ScriptTrap, Set, Some, Traps, Work, accumulated, ap, arith, context_at, drop, false, fold, is_mark, le-ltb, lt-ltb, min, nat_lt, option_and_then, prefix_len, refl, rest_after, rest_at, slice, slice_get, sym, take, trap_of, true, ℕ, [], ◌<◌, ◌∙◌, ◌∷◌, ◌≡◌, ◌≤◌}
 use Rattle.lot_script.proofs.Lists.{prefix_len-stops, slice_get-after}
 

@@ -1,4 +1,4 @@
--- Lists, their fronts and what comes after them.
+-- Lists, their prefixes and the rests after them.
 use Rattle.lot_script.proofs.Common.{All, Bool, Item, List, None, Some, Work, accumulated, ap, arith, cond, drop, drop-append-le, drop-drop, drop-replicate, false, fold, fold-append, get_or_from_slice_get, is_mark, length, length-replicate, prefix_len, refl, replicate, slice_get, slice_get_within, subst, suc, sym, take, take-add, take-append-le, take-replicate, true, zero, ℕ, [], ◌++◌, ◌+◌, ◌-◌, ◌∙◌, ◌∷◌, ◌≡◌, ◌≤◌}
 
 -- past the end there is no element

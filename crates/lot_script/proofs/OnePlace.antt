@@ -1,9 +1,9 @@
--- Two places of a script that mean the same rest of its list are one place, since each mark and trap is passed once.
-use Rattle.lot_script.proofs.Common.{AreCopies, AtPort, CanBeDone, Exit, Fits, IsLine, IsScript, Item, List, None, OnMutex, OpenLoop, Option, Place, Reply, ScriptLine, ScriptTrap, Sleep, Some, Stands, Traps, Yield, ap, arith, cases_lt, context_at, drop, drop_all, first_place, fold, inl, inr, length, length-drop, loops_after, open_after, open_at, refl, rest_after, rest_at, slice_get, slice_get_within, subst, suc, sym, take, take_all, unrolled, zero, ℕ, [], ⊤, ◌+◌, ◌-◌, ◌<◌, ◌∙◌, ◌∷◌, ◌≡◌, ◌≢◌, ◌≤◌, ◌⊎◌}
+-- Two places of a script with the same rest of its list are one place, since a thread passes each mark and trap once.
+use Rattle.lot_script.proofs.Common.{AreCopies, CanBeDone, Exit, Fits, IsScript, Item, List, None, OpenLoop, Option, Place, ScriptLine, Some, Stands, Traps, ap, arith, cases_lt, context_at, drop, drop_all, first_place, fold, inl, inr, length, length-drop, loops_after, open_after, open_at, refl, rest_after, rest_at, slice_get, slice_get_within, subst, suc, sym, take, take_all, unrolled, zero, ℕ, [], ⊤, ◌+◌, ◌-◌, ◌<◌, ◌∙◌, ◌∷◌, ◌≡◌, ◌≢◌, ◌≤◌, ◌⊎◌}
 use Rattle.lot_simulation.specs.declared.script.ScriptLine.TheVariants as line
 use Rattle.lot_script.proofs.Lists.{slice_get_none, drop-element, drop-add}
 use Rattle.lot_script.proofs.Opened.{open_at-next, encloses-there, copies-first, length-open_after_lines}
-use Rattle.lot_script.proofs.Passed.{stands-good, stands-nests, stands-done, Fits-line, Passes-some, Passes-whole, Passes-set, Passes-add, Passes-loop, Passes-after, Passes-again, MakesTrap-line}
+use Rattle.lot_script.proofs.Passed.{stands-good, stands-nests, stands-done, Fits-line, Passes-some, Passes-whole, Passes-set, Passes-add, Passes-loop, Passes-after, Passes-again, trap-drops, MakesTrap-line}
 use Rattle.lot_script.proofs.Reached.{some-there}
 
 first_same : {x y : OpenLoop} {xs ys : List OpenLoop} → x ∷ xs ≡ y ∷ ys → x ≡ y
@@ -302,15 +302,6 @@ stepped-end lines p (o ∷ outer) at is = of_left o.left refl
         let again : IsAgain lines p (record p { line = o.body; done = 0; loops = record o { left = o.left - 1 } ∷ outer }) =
         record { is = at.next; begun = begun; there = refl; loop = o; outer = outer; left = left; inside = is; some = some; body = refl; again = rw fewer refl } in
         (record p { line = o.body; done = 0; loops = record o { left = o.left - 1 } ∷ outer }, record { step = Again again; fits = passes.fits; rest = passes.rest })
-
--- a trap of a line is no exit, so the item that stands first is dropped
-trap-drops : (t : ScriptTrap) (items : List Item) → IsLine (line.Trap t) → rest_after items (Some t) ≡ drop 1 items
-trap-drops Yield items good = refl
-trap-drops Reply items good = refl
-trap-drops (AtPort asked port) items good = refl
-trap-drops (OnMutex asked mutex) items good = refl
-trap-drops (Sleep n) items good = refl
-trap-drops Exit items good = absurd good
 
 stepped : (lines : List ScriptLine) (p : Place) (l : ScriptLine) → Stands lines p l → (q : Place) × IsStepped lines p q
 stepped lines p (line.Compute n) at = stepped-compute lines p n at (cases_lt (p.done + 1) n)

@@ -1,4 +1,4 @@
--- The loops that are open at a line.
+-- The loops open at a line.
 use Rattle.lot_script.proofs.Common.{AreCopies, CanNest, IsCopy, IsScript, Item, List, None, OpenLoop, Option, ScriptLine, Some, ap, arith, drop, fold, length, loops_after, open_after, open_after_lines, open_at, pieces, refl, slice_get, slice_get_within, suc, take, zero, ℕ, [], ⊤, ◌+◌, ◌∙◌, ◌∷◌, ◌≡◌, ◌≤◌}
 use Rattle.lot_simulation.specs.declared.script.ScriptLine.TheVariants as line
 use Rattle.lot_script.proofs.Lists.{drop-element, slice_get_none}

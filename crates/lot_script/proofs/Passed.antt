@@ -1,5 +1,5 @@
--- What is passed from a place, line by line.
-use Rattle.lot_script.proofs.Common.{Add, AreCopies, AtPort, CanBeDone, CanNest, Exit, Fits, IsCopy, IsLine, IsScript, Item, List, MakesTrap, None, OnMutex, OpenLoop, Option, Passes, Place, Reply, ScriptLine, ScriptTrap, Set, Sleep, Some, Stands, Traps, Work, Yield, accumulated, ap, arith, cases_lt, drop, drop_all, inl, inr, is_mark, items_of, left_of, length, min, open_at, pieces, prefix_len, refl, replicate, rest_after, rest_at, slice_get, slice_get_within, subst, suc, sym, true, ℕ, [], ◌%◌, ◌++◌, ◌+◌, ◌-◌, ◌<◌, ◌∙◌, ◌∷◌, ◌≡◌, ◌≤◌, ◌⊎◌}
+-- The items passed from a place, line by line.
+use Rattle.lot_script.proofs.Common.{Add, AreCopies, CanBeDone, CanNest, Exit, Fits, IsCopy, IsLine, IsScript, Item, List, MakesTrap, None, OpenLoop, Option, Passes, Place, ScriptLine, ScriptTrap, Set, Some, Stands, Traps, Work, accumulated, ap, arith, cases_lt, drop, drop_all, inl, inr, is_mark, items_of, left_of, length, min, open_at, pieces, prefix_len, refl, replicate, rest_after, rest_at, slice_get, slice_get_within, subst, suc, sym, true, ℕ, [], ◌%◌, ◌++◌, ◌+◌, ◌-◌, ◌<◌, ◌∙◌, ◌∷◌, ◌≡◌, ◌≤◌, ◌⊎◌}
 use Rattle.lot_simulation.specs.declared.script.ScriptLine.TheVariants as line
 use Rattle.lot_script.proofs.Lists.{slice_get_none, drop-element, All-element, drop-add, fold-take-add, prefix_len_then, marks_front, fold-work, take-work, drop-work}
 use Rattle.lot_script.proofs.Copies.{copies-length}
@@ -210,14 +210,10 @@ Passes-whole lines p n at =
 
 -- ---- traps
 
--- a trap of a line is passed, since no line is an exit
-trap-after : (t : ScriptTrap) (rest : List Item) → IsLine (line.Trap t) → rest_after (Traps t ∷ rest) (Some t) ≡ rest
-trap-after Yield rest good = refl
-trap-after Reply rest good = refl
-trap-after (AtPort asked port) rest good = refl
-trap-after (OnMutex asked mutex) rest good = refl
-trap-after (Sleep n) rest good = refl
-trap-after Exit rest good = absurd good
+-- a trap of a line is no exit, so the item that stands first is dropped
+pub trap-drops : (t : ScriptTrap) (items : List Item) → IsLine (line.Trap t) → rest_after items (Some t) ≡ drop 1 items
+trap-drops Exit items good = absurd good
+trap-drops t items good = refl
 
 -- the trap of a line is made
 pub MakesTrap-line : (lines : List ScriptLine) (p : Place) (t : ScriptTrap) → Stands lines p (line.Trap t) → MakesTrap lines p (record p { line = p.line + 1; done = 0 }) t
@@ -227,7 +223,7 @@ MakesTrap-line lines p t at =
     record {
       fits = Fits-after lines p (line.Trap t) p.accumulator tt at;
       stands = rw here refl;
-      rest = rest_at-after lines p.line p.accumulator p.loops ∙ sym (ap (λ items. rest_after items (Some t)) here ∙ trap-after t following (stands-good lines p (line.Trap t) at));
+      rest = rest_at-after lines p.line p.accumulator p.loops ∙ sym (ap (λ items. rest_after items (Some t)) here ∙ trap-drops t (Traps t ∷ following) (stands-good lines p (line.Trap t) at));
       accumulator = refl;
     }
 

@@ -1,4 +1,4 @@
--- What is left at a place that fits is a rest of the unrolled list.
+-- The rest at a place that fits is a rest of the unrolled list.
 use Rattle.lot_script.proofs.Common.{Add, AreCopies, Exit, Fits, IsLine, IsRestOf, IsScript, Item, List, None, OpenLoop, Option, Pieces, Place, ScriptLine, ScriptTrap, Set, Some, Stands, Traps, Work, ap, append_assoc, arith, drop, items_of, left_of, length, length-append, length-replicate, open_after, open_at, option_and_then, pieces, refl, rest_at, slice_get, subst, suc, take, take-append-drop, trap_of, unrolled, zero, ℕ, [], ◌++◌, ◌+◌, ◌-◌, ◌<◌, ◌∙◌, ◌∷◌, ◌≡◌, ◌≤◌}
 use Rattle.lot_simulation.specs.declared.script.ScriptLine.TheVariants as line
 use Rattle.lot_script.proofs.Lists.{slice_get_none, drop-element, All-element}

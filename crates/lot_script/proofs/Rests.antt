@@ -1,4 +1,4 @@
--- What is left of a script at a place, and what is passed from there.
+-- The rest of a script at a place, and the items passed from there.
 use Rattle.lot_script.proofs.Common.{Exit, Item, List, OpenLoop, Pieces, ScriptLine, Traps, Work, after_end, ap, append_assoc, drop, first_of_list, items_of, left_of, pieces, refl, repeat, suc, sym, ℕ, [], ⊤, ◌++◌, ◌∙◌, ◌∷◌, ◌≡◌}
 use Rattle.lot_simulation.specs.declared.script.ScriptLine.TheVariants as line
 

@@ -2,7 +2,7 @@
 use Rattle.std.specs.Prelude.{◌≡◌, ℕ, ◌+◌, ◌-◌, ◌<◌, ◌≤◌, ◌==◌, nat_lt, nat_le, Bool, true, ◌||◌, ⊤, List, [], ◌∷◌, ◌++◌, length, fold, All}
 use Rattle.lot_simulation.specs.declared.script.ScriptLine.{ScriptLine}
 use Rattle.lot_simulation.specs.declared.script.ScriptLine.TheVariants as line
-use Rattle.lot_simulation.specs.declared.script.ScriptTrap.TheVariants.{Sleep, Exit}
+use Rattle.lot_machine.specs.declared.trap.Trap.TheVariants.{Sleep, Exit}
 use Rattle.lot_simulation.specs.declared.input.InputRefusal.{InputRefusal}
 use Rattle.lot_simulation.specs.declared.input.InputRefusal.TheVariants.{BadLine, BadNumber, TooDeep, TooLong}
 use Rattle.lot_machine.specs.Bounds.{IsBetween}
@@ -59,7 +59,7 @@ pub record IsScript (lines : List ScriptLine) : Type 0 where
   pub nests : Nests 0 lines
   pub closed : open_count lines ≡ 0
 
--- whether there are as many lines as are allowed
+-- whether the script is full
 abbrev pub is_full : Draft → Bool
 is_full d = nat_le 1024 (length d.lines)
 

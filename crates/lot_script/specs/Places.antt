@@ -3,7 +3,7 @@ use Rattle.std.specs.Prelude.{◌≡◌, ℕ, ◌+◌, ◌-◌, ◌<◌, ◌≤�
 use Rattle.std.specs.List.{repeat, prefix_len}
 use Rattle.lot_simulation.specs.declared.script.ScriptLine.{ScriptLine}
 use Rattle.lot_simulation.specs.declared.script.ScriptLine.TheVariants as line
-use Rattle.lot_simulation.specs.declared.script.ScriptTrap.{ScriptTrap}
+use Rattle.lot_machine.specs.Actions.{ScriptTrap}
 use Rattle.lot_simulation.specs.Script.{Item, Pieces, Context, pieces, first_of_list, is_mark, trap_of, rest_after, accumulated}
 use Rattle.lot_simulation.specs.Script.Item.{Work}
 use Rattle.lot_script.specs.Drafts.{IsScript}
@@ -85,7 +85,7 @@ left_of lines p (o ∷ outer) = p.first ++ Work ∷ (repeat o.left ((pieces (dro
 abbrev pub rest_at : List ScriptLine → Place → List Item
 rest_at lines place = drop place.done (left_of lines (pieces (drop place.line lines)) place.loops)
 
--- the context that a place stands for in a script of these lines
+-- the context of a place in a script of these lines
 abbrev pub context_at : List ScriptLine → Place → Context
 context_at lines place = record { rest = rest_at lines place; accumulator = place.accumulator }
 
@@ -95,7 +95,7 @@ IsRestOf rest whole = (front : List Item) × (front ++ rest ≡ whole)
 
 -- ---- from place to place
 
--- This many marks, and no trap, are passed between the two places.
+-- this many marks, and no trap, lie between the two places
 pub record Passes (lines : List ScriptLine) (old new : Place) (count : ℕ) : Type 0 where
   pub fits : Fits lines new
   pub marks : count ≤ prefix_len is_mark (rest_at lines old)
@@ -114,7 +114,7 @@ abbrev pub IsMarked : ScriptLine → Type 0
 IsMarked (line.Trap trap) = ⊥
 IsMarked other = ⊤
 
--- between the two places at least one mark and at most this many are passed, or the trap is made
+-- at least one mark and at most this many lie between the two places, or the trap is made
 abbrev pub Advances : List ScriptLine → Place → Place → ℕ → Advance → Type 0
 Advances lines old new most (advance.Marks count) = (0 < count) × (count ≤ most) × Passes lines old new count
 Advances lines old new most (advance.Trap trap) = MakesTrap lines old new trap

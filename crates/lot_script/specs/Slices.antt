@@ -1,7 +1,7 @@
 -- The fields of a slice.
 use Rattle.std.specs.Prelude.{◌≡◌, ℕ, Option, List}
 use Rattle.lot_simulation.specs.declared.script.ScriptLine.{ScriptLine}
-use Rattle.lot_simulation.specs.declared.script.ScriptTrap.{ScriptTrap}
+use Rattle.lot_machine.specs.Actions.{ScriptTrap}
 use Rattle.lot_machine.specs.Bounds.{IsBetween}
 use Rattle.lot_simulation.specs.Script.{slice}
 use Rattle.lot_script.specs.Places.{Place, Fits, context_at}

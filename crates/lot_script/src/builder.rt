@@ -5,7 +5,8 @@ ghost use Rattle.lot_simulation.specs.Reading.{checked};
 ghost use Rattle.lot_script.specs.Drafts.{IsLine, CanNest, line_checks, loops_after, pushed};
 
 use crate::Script;
-use lot_simulation::{InputRefusal, Range, ScriptLine, ScriptTrap, ranges};
+use lot_machine::ScriptTrap;
+use lot_simulation::{InputRefusal, Range, ScriptLine, ranges};
 use std::alloc::{AllocError, Global};
 use std::marker::Model;
 
@@ -56,9 +57,9 @@ impl ScriptBuilder {
         self.open_loops
     }
 
-    /// Returns `Ok` if the line can come next, and otherwise the refusal for an input with it: `BadNumber` for a
-    /// `compute`, a `sleep` or a `loop` out of its range, `TooDeep` for a ninth open loop, `BadLine` for an `end`
-    /// without a loop and for an exit, which no line is, and `TooLong` for line 1025, checked in this order.
+    /// Returns `Ok` if the line can come next, and otherwise the refusal of an input with it, checked in this order:
+    /// `BadNumber` for a `compute`, a `sleep` or a `loop` out of its range, `TooDeep` for a ninth open loop, `BadLine`
+    /// for an `end` without a loop and for an exit, which no line is, and `TooLong` for line 1025.
     pub fn check(&self, line: ScriptLine) -> Result<(), InputRefusal>
         ensures checks { result ≡ checked (line_checks self.now line) tt }
         ensures number { OnOk result (IsLine line) }
@@ -86,7 +87,7 @@ impl ScriptBuilder {
         Ok(())
     }
 
-    /// Adds one line. If out of memory, it changes nothing.
+    /// Adds one line. Fails only if out of memory, and changes nothing then.
     pub fn push(&mut self, line: ScriptLine) -> Result<(), AllocError>
         requires number { IsLine line }
         requires nesting { CanNest self.old.loops line }

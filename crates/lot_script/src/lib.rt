@@ -2,7 +2,7 @@
 //!
 //! A `Script` means a list of marks, each worth one tick, and of traps. It ends with an exit trap. Loops are unrolled
 //! in that list, never in memory. A `Place` is a thread's place in the list, with its accumulator. A `Slice` is the
-//! thread's work from there with a budget of ticks.
+//! thread's work from there within a budget of ticks.
 //!
 //! Its tests stand in `lot_text_tests`.
 #![tactic(auto)]

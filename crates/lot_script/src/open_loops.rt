@@ -17,7 +17,7 @@ pub(crate) struct OpenLoop {
 }
 
 impl OpenLoop {
-    /// Whether it is the given loop, in its first copy or a later one.
+    /// Whether it is `first`, in its first copy or a later one.
     fn is_copy(self, first: OpenLoop) -> bool
         ensures { IsTrue result ↔ IsCopy self first }
     {
@@ -25,7 +25,7 @@ impl OpenLoop {
     }
 }
 
-/// The open loops at some place, at most 8. The contracts see the innermost first.
+/// The open loops at some place, at most 8. Contracts see the innermost first.
 #[derive(Debug, PartialEq, Eq, Drop)]
 pub(crate) struct OpenLoops {
     /// The outermost first.
@@ -60,7 +60,7 @@ impl OpenLoops {
         }
     }
 
-    /// A copy of the loops, made one by one, since there are seldom more than two. It allocates nothing.
+    /// A copy of the loops, one by one, since there are seldom more than two. It allocates nothing.
     #[inline(always)]
     pub(crate) fn copied(&self) -> Self
         ensures { result ≡ self.now }
@@ -116,7 +116,7 @@ impl OpenLoops {
         }
     }
 
-    /// Whether these are the given loops, each in its first copy or a later one.
+    /// Whether these are the loops of `firsts`, each in its first copy or a later one.
     pub(crate) fn are_copies(&self, firsts: &OpenLoops) -> bool
         ensures { IsTrue result ↔ AreCopies self.now firsts.now }
     {
@@ -124,7 +124,7 @@ impl OpenLoops {
     }
 }
 
-/// Whether the loops are the given ones, each in its first copy or a later one. Both lists have the outermost first.
+/// Whether the loops are those of `firsts`, each in its first copy or a later one. Both lists have the outermost first.
 fn are_copies(loops: &[OpenLoop], firsts: &[OpenLoop]) -> bool
     ensures { IsTrue result ↔ AreCopies (reverse loops.now) (reverse firsts.now) }
 {

@@ -4,7 +4,8 @@ ghost use Rattle.lot_script.specs.Drafts.{IsScript};
 ghost use Rattle.lot_script.specs.Places.{Advances, Fits, IsMarked, Passes, Stands};
 
 use crate::{Place, Script};
-use lot_simulation::{ScriptLine, ScriptTrap};
+use lot_machine::ScriptTrap;
+use lot_simulation::ScriptLine;
 
 /// The next step of a thread.
 #[derive(Clone, Copy, Debug)]

@@ -13,8 +13,7 @@ pub struct Place {
     pub(crate) line: usize,
     /// The ticks done of the next line, if it is a `compute`.
     pub(crate) done: u32,
-    // It comes before the loops, since the two numbers of 32 bits then leave no gap, for which a copy of the whole
-    // would wait.
+    // Before the loops: the two 32-bit numbers then leave no gap, for which a copy of the whole would wait.
     pub(crate) accumulator: u32,
     /// The loops around the place.
     pub(crate) loops: OpenLoops,
@@ -85,7 +84,7 @@ impl Place {
         self.done = 0;
     }
 
-    /// Does work of a `compute` of this many ticks: the rest of it, but at most `most`. Returns the ticks done.
+    /// Does work of a `compute` of this many ticks: the rest of it, up to `most`. Returns the ticks done.
     #[inline(always)]
     pub(crate) fn work(&mut self, ticks: u32, most: u32) -> u32
         requires line { self.old.line < 1024 }

@@ -6,7 +6,8 @@ ghost use Rattle.lot_script.specs.Places.{CanBeDone, Fits, IsRestOf, context_at,
 
 use crate::Place;
 use crate::open_loops::OpenLoops;
-use lot_simulation::{ScriptLine, ScriptTrap};
+use lot_machine::ScriptTrap;
+use lot_simulation::ScriptLine;
 use std::alloc::{AllocError, Global};
 use std::marker::Model;
 
@@ -38,7 +39,7 @@ impl Script {
         self.lines.as_slice()
     }
 
-    /// A copy of the script, in memory of its own.
+    /// A copy of the script, in memory of its own. It fails only if out of memory.
     pub fn copied(&self, alloc: Global) -> Result<Script, AllocError>
         ensures { IfOk result (λ script. script ≡ self.now) }
     {
@@ -46,7 +47,7 @@ impl Script {
         Ok(Script { lines })
     }
 
-    /// A copy of the script in which each `sleep` is a `yield`, as a run without time takes it.
+    /// A copy of the script for a free run, with a `yield` for each `sleep`. It fails only if out of memory.
     pub fn without_sleeps(&self, alloc: Global) -> Result<Script, AllocError>
         ensures { IfOk result (λ script. script ≡ map without_sleep self.now) }
     {
@@ -104,7 +105,7 @@ impl Script {
     }
 }
 
-/// The line as a run without time takes it: a `sleep` is a `yield`.
+/// The line in a free run: a `yield` for a `sleep`.
 fn without_sleep(line: ScriptLine) -> ScriptLine
     ensures { result ≡ without_sleep line }
 {

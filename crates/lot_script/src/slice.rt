@@ -6,7 +6,7 @@ ghost use Rattle.lot_script.specs.Slices.{IsSlice, IsSameSlice};
 
 use crate::passing::Advance;
 use crate::{Place, Script};
-use lot_simulation::ScriptTrap;
+use lot_machine::ScriptTrap;
 use std::marker::Model;
 
 /// The work of a thread in its script within a budget of ticks: ticks of work, and then a trap or the budget's end.
@@ -45,14 +45,14 @@ impl<'a> Model for Slice<'a> {
 }
 
 impl<'a> Slice<'a> {
-    /// The script.
+    /// The script that the slice is of.
     pub fn script(&self) -> &'a Script
         ensures { result.now ≡ self.now.lines }
     {
         self.script
     }
 
-    /// The place at which it began.
+    /// The place at which the slice begins.
     pub fn start(&self) -> &Place
         ensures { result.now ≡ self.now.start }
     {
@@ -76,7 +76,7 @@ impl<'a> Slice<'a> {
             && self.budget == other.budget
     }
 
-    /// The ticks of work. A trap's own tick isn't counted.
+    /// The ticks of work, without a trap's own tick.
     pub fn ticks(&self) -> u32
         ensures ticks { result ≡ self.now.ticks }
         ensures exact { IsSlice self.now }
@@ -84,7 +84,7 @@ impl<'a> Slice<'a> {
         self.ticks
     }
 
-    /// The trap at its end, or `None` if the budget was used up before one.
+    /// The trap at the slice's end, or `None` if the budget ends first.
     pub fn trap(&self) -> Option<ScriptTrap>
         ensures trap { result ≡ self.now.trap }
         ensures exact { IsSlice self.now }
@@ -92,7 +92,7 @@ impl<'a> Slice<'a> {
         self.trap
     }
 
-    /// The place at its end: after the trap, except that it never passes an exit.
+    /// The place at the slice's end: after the trap, or at an exit, which no slice passes.
     pub fn end(&self) -> &Place
         ensures end { result.now ≡ self.now.end }
         ensures exact { IsSlice self.now }
@@ -104,15 +104,15 @@ impl<'a> Slice<'a> {
 /// The result of a slice: ticks of work, and then a trap or the budget's end.
 #[derive(Clone, Copy, Debug, PartialEq, Eq)]
 pub struct SliceDone {
-    /// The ticks of work. A trap's own tick isn't counted.
+    /// The ticks of work, without a trap's own tick.
     pub ticks: u32,
-    /// The trap, or `None` if the budget was used up before one.
+    /// The trap, or `None` if the budget ends first.
     pub trap: Option<ScriptTrap>,
 }
 
 impl Script {
-    /// Advances a place of this script by a slice with a budget of 1 to 1000 ticks: to after the trap, except that it
-    /// never passes an exit. It allocates nothing, and takes as many steps as it passes lines.
+    /// Advances a place of this script by a slice with a budget of 1 to 1000 ticks: past the trap, unless it is an
+    /// exit, which no slice passes. It allocates nothing, and takes as many steps as it passes lines.
     #[inline(always)]
     pub fn pass_slice(&self, place: &mut Place, budget: u32) -> SliceDone
         requires fits { Fits self.now place.old }

@@ -1,4 +1,4 @@
--- What is counted of each actor's turns adds up to what is counted of all turns.
+-- The counts of all actors' turns add up to the counts of all turns.
 use Rattle.lot_simulation.proofs.Common.{ActorTurn, All, All-cons, All-head, All-nil, All-tail, All-weaker, IsLegal, List, Program, Reply, World, ap, arith, beside, cond, count_in, eq-eqb, length, ne_eqb, opening_world, range_with_len, refl, suc, sum-filter, sum-one, sum-same, sum-swap, sum_by, sum_by-cons, sym, system_answers, system_turn, total_of, turns_made, turns_of, ℕ, [], ◌+◌, ◌<◌, ◌==◌, ◌∙◌, ◌∷◌, ◌≡◌, ◌≤◌}
 
 -- ---- turns of actors below n

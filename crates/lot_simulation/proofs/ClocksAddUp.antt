@@ -1,4 +1,4 @@
--- What a processor has run and how long it was idle are its clock.
+-- A processor's ticks and its idle time add up to its clock.
 use Rattle.lot_simulation.proofs.Common.{Action, ActorTurn, BadProcessor, BadTicks, Bool, Clock, Command, Context, Drawn, Due, IsNonDecreasing, IsWithinBounds, List, Moment, None, NotRunning, Option, Program, Refusal, ScriptTrap, Sizes, Some, State, TimedTurn, World, action_of, actor_event, actor_turns, all_due, ap, arith, at_number, at_number-suc, cases_eq, clock_after_console, clock_at, clock_of, clocks_after, clocks_after_console, clocks_after_processor, cond, console_turn, context_of, cost_of, count_in, draw, due_first, earliest, end_of, ended_at, eq-eqb, eqb-false, eqb-true, event_effect, event_of_slice, event_refusal, false, first_failing, following, get_or, idle_to, idle_until, inl, inr, is_bad_processor, is_idle_draw, is_mark, is_none, last_moment, le-leb, le-ltb, length, length-map, length-map-range_with_len, length-replicate, length-set, ltb-false, ltb-true, map, min, moment_after, moment_after_all, nat_lt, ne_eqb, next_due, next_name, number-set_same, number_of, opening_moment, option_map, prefix_len, processor_event, processor_turn, ready_threads, refl, replicate, resolved, set_number, slice, slice_get, slice_get_cases, slice_on, step, step-limits, subst, suc, sum_by-cons, sym, system_turn, take, thread_on, ticks_in, timed_room, timed_turns, total_of, true, turn_due, turns_from, turns_of, unless_refused, unwrap_or, used_there, weight_of, winner, within, woken, zero, ℕ, [], ◌+◌, ◌-◌, ◌<◌, ◌==◌, ◌||◌, ◌∙◌, ◌∷◌, ◌≡◌, ◌≤◌, ◌⊎◌}
 use Rattle.lot_machine.specs.declared.event.Event.TheVariants as event
 use Rattle.lot_simulation.proofs.OtherTurns.{event_for, event-for, set-kept}

@@ -11,14 +11,14 @@ pub use Rattle.std.specs.List.Sorted.{IsNonDecreasing}
 pub use Rattle.std.specs.Option.{option_map_or}
 pub use Rattle.lot_machine.proofs.Changes.{number-set}
 pub use Rattle.lot_machine.proofs.CommandsKept.{all-pass, some-of}
-pub use Rattle.lot_machine.proofs.Common.{IsInOrder, NewThread, PutRecord, Step, after_trap, at_number, command_effect, command_refusal, command_step, first_failing, get_or_from_slice_get, killed_by, length-set, newborn, numbers, option_any, placed, processor_of, set_number, slice_get-get_or, slice_get-map, slice_get_cases, slice_get_within, thread_in, thread_meant, unless_refused, winner, with_ticks, ⊤}
+pub use Rattle.lot_machine.proofs.Common.{IsInOrder, NewThread, PutRecord, Step, after_trap, at_number, command_effect, command_refusal, command_step, first_failing, get_or_from_slice_get, length-set, newborn, numbers, option_any, placed, processor_of, set_number, slice_get-get_or, slice_get-map, slice_get_cases, slice_get_within, thread_in, thread_meant, unless_refused, winner, with_ticks, ⊤}
 pub use Rattle.lot_machine.proofs.LendSums.{number-within}
 pub use Rattle.lot_machine.proofs.NamedThreads.{named-apart, winner-within}
 pub use Rattle.lot_machine.proofs.OrderKept.{opening-order, step-order}
 pub use Rattle.lot_machine.proofs.Places.{length-placed, number-stays}
 pub use Rattle.lot_machine.proofs.Queues.{number-set_same}
 pub use Rattle.lot_machine.proofs.RecordsKept.{found-runs, numbered}
-pub use Rattle.lot_machine.proofs.RunsElsewhere.{step-found, step-idle, step-used_there}
+pub use Rattle.lot_machine.proofs.RunsElsewhere.{event-kills, step-found, step-idle, step-used_there}
 pub use Rattle.lot_machine.proofs.StepChanges.{By, Console, IsTallied, Keeps, Kills, Work, checked-leads, command-leads, free-dead, kept}
 pub use Rattle.lot_machine.proofs.StepSizes.{checked-sizes, command-grown, killed-length, other-sizes, step-grown, step-limits, step-sizes}
 pub use Rattle.lot_machine.proofs.Sums.{sum-at_most, sum-filter, sum-nothing, sum-one, sum-plus, sum-same, sum-swap}
@@ -26,7 +26,7 @@ pub use Rattle.lot_machine.proofs.Tickets.{at_number-suc, some-injective}
 pub use Rattle.lot_machine.specs.Bounds.{IsBetween, IsWithinBounds}
 pub use Rattle.lot_machine.specs.State.{State, change_record, free_threads, is_ready, opening, ready_threads, saturated, status_of, thread_on, weight_of}
 pub use Rattle.lot_machine.specs.Step.{checked_effect, draw, event_effect, event_refusal, expire, is_bad_processor, started, step, thread_there, trap, trap_effect, trap_refusal, used_there, wake}
-pub use Rattle.lot_machine.specs.declared.action.Action.{Action}
+pub use Rattle.lot_machine.specs.Actions.{Action, ScriptTrap}
 pub use Rattle.lot_machine.specs.declared.after.After.{After}
 pub use Rattle.lot_machine.specs.declared.after.After.TheVariants.{Ends, GoesOn, Leaves}
 pub use Rattle.lot_machine.specs.declared.command.Command.{Command}
@@ -49,8 +49,7 @@ pub use Rattle.lot_simulation.specs.TimedReport.{actor_turns, clock_at, early_te
 pub use Rattle.lot_simulation.specs.Words.{word_in}
 pub use Rattle.lot_simulation.specs.World.{IsLegal, IsLegalInTime, Program, TurnMade, World, action_of, actor_event, command_turn, console_turn, context_of, contexts_after, contexts_after_command, event_of_slice, new_context, next_name, number_of, opening_world, processor_event, processor_turn, resolved, sleeper_by, sleeper_on, slice_on, system_after, system_answers, system_run, system_turn}
 pub use Rattle.lot_simulation.specs.World.TurnAnswer.{Answered}
-pub use Rattle.lot_simulation.specs.declared.script.ScriptTrap.{ScriptTrap}
-pub use Rattle.lot_simulation.specs.declared.script.ScriptTrap.TheVariants.{Sleep}
+pub use Rattle.lot_machine.specs.declared.trap.Trap.TheVariants.{Sleep}
 pub use Rattle.lot_simulation.specs.declared.timed.Clock.{Clock}
 pub use Rattle.lot_simulation.specs.declared.timed.Due.{Due}
 pub use Rattle.lot_simulation.specs.declared.timed.Sleeper.{Sleeper}

@@ -1,4 +1,4 @@
--- Whom a draw has won is one of the numbered threads.
+-- The winner of a draw is one of the numbered threads.
 use Rattle.lot_simulation.proofs.Common.{Bool, Drawn, IsBetween, List, None, Option, Record, Some, State, Status, ap, arith, at_number, at_number-suc, false, filter, get_or, get_or_from_slice_get, inl, inr, is_ready, length, length-map, map, numbered, numbers, option_any, ready_threads, refl, slice_get, slice_get-get_or, slice_get_cases, slice_index, status_of, suc, sym, true, weight_of, winner, winner-within, zero, ℕ, [], ◌-◌, ◌<◌, ◌∙◌, ◌∷◌, ◌≡◌, ◌≤◌, ◌⊎◌}
 
 -- what stands at a number within the list

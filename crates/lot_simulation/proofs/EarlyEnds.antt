@@ -1,4 +1,4 @@
--- With room left no turn is due after the last, and a refusal ends a strict play.
+-- Below the limit on turns no turn is due after the last, and a refusal ends a strict play.
 use Rattle.lot_simulation.proofs.Common.{Bool, Due, List, Moment, None, Option, Program, Some, TimedTurn, ap, append-nil, arith, cond, due_first, early_text, end_of, ended_at, false, following, is_refusal, is_stopped, last_moment, length, moment_after, moment_after_all, next_due, opening_moment, option_map, refl, suc, sym, timed_report, timed_report_of, timed_room, timed_turns, true, turn_due, turns_from, zero, ℕ, [], ◌++◌, ◌<◌, ◌||◌, ◌∙◌, ◌∷◌, ◌≡◌}
 
 module _ (program : Program) where
@@ -34,7 +34,7 @@ module _ (program : Program) where
 
   -- ---- strict plays
 
-  module _ (strict : program.strict ≡ true) where
+  module _ (strict : program.options.strict ≡ true) where
     -- no turn is made once a command or a trap was refused
     none-after : (room : ℕ) (m : Moment) → m.has_refused ≡ true → turns_from program room m ≡ []
     none-after zero m refused = refl

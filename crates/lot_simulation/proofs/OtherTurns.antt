@@ -1,5 +1,5 @@
--- A turn of one actor leaves what the next turn of another processor costs.
-use Rattle.lot_simulation.proofs.Common.{Bool, Command, Context, Event, IsBetween, IsInOrder, Kill, List, MakeFunded, MakeThread, None, Option, Program, Record, Refusal, Reply, ScriptTrap, Slice, Some, State, Step, TurnMade, World, actor_event, ap, arith, at_number, command-grown, command_effect, command_refusal, command_step, command_turn, cond, console_turn, context_of, contexts_after, contexts_after_command, cost_of, eqb-true, event_of_slice, event_refusal, false, found-runs, free-dead, free_threads, get_or, inl, inr, is_none, killed-length, killed_by, length, length-append, length-placed, length-set, named-apart, nat_le, new_context, newborn, next_name, number-set, number-stays, number_of, numbered, other-sizes, placed, processor_event, processor_of, processor_turn, refl, resolved, set_number, slice, slice_get, slice_on, status_of, step, step-found, step-grown, step-idle, step-limits, step-order, step-sizes, step-used_there, subst, suc, sym, system_turn, thread_in, thread_meant, thread_on, true, unless_refused, unwrap_or, used_there, wake, ℕ, [], ◌+◌, ◌-◌, ◌==◌, ◌∙◌, ◌∷◌, ◌≡◌, ◌≤◌, ◌⊎◌}
+-- A turn of one actor leaves the cost of the next turn of another processor.
+use Rattle.lot_simulation.proofs.Common.{Bool, Command, Context, Event, IsBetween, IsInOrder, Kill, List, MakeFunded, MakeThread, None, Option, Program, Record, Refusal, Reply, ScriptTrap, Slice, Some, State, Step, TurnMade, World, actor_event, ap, arith, at_number, command-grown, command_effect, command_refusal, command_step, command_turn, cond, console_turn, context_of, contexts_after, contexts_after_command, cost_of, eqb-true, event-kills, event_of_slice, event_refusal, false, found-runs, free-dead, free_threads, get_or, inl, inr, is_none, killed-length, length, length-append, length-placed, length-set, named-apart, nat_le, new_context, newborn, next_name, number-set, number-stays, number_of, numbered, other-sizes, placed, processor_event, processor_of, processor_turn, refl, resolved, set_number, slice, slice_get, slice_on, status_of, step, step-found, step-grown, step-idle, step-limits, step-order, step-sizes, step-used_there, subst, suc, sym, system_turn, thread_in, thread_meant, thread_on, true, unless_refused, unwrap_or, used_there, wake, ℕ, [], ◌+◌, ◌-◌, ◌==◌, ◌∙◌, ◌∷◌, ◌≡◌, ◌≤◌, ◌⊎◌}
 use Rattle.lot_machine.specs.declared.event.Event.TheVariants as event
 use Rattle.lot_machine.specs.declared.reply.Reply.TheVariants as reply
 use Rattle.lot_machine.specs.declared.record.Status.TheVariants as status
@@ -83,6 +83,7 @@ contexts-kept w q u (reply.Currency n) other = refl
 contexts-kept w q u (reply.Thread n) other = refl
 contexts-kept w q u (reply.Funded n m) other = refl
 contexts-kept w q u reply.Done other = refl
+contexts-kept w q u (reply.Killed t) other = refl
 contexts-kept w q u (reply.List kind) other = refl
 contexts-kept w q u reply.Idle other = refl
 contexts-kept w q u (reply.Refused refusal) other = refl
@@ -97,6 +98,7 @@ contexts-length w q (reply.Currency n) = refl
 contexts-length w q (reply.Thread n) = refl
 contexts-length w q (reply.Funded n m) = refl
 contexts-length w q reply.Done = refl
+contexts-length w q (reply.Killed t) = refl
 contexts-length w q (reply.List kind) = refl
 contexts-length w q reply.Idle = refl
 contexts-length w q (reply.Refused refusal) = refl
@@ -176,14 +178,8 @@ abbrev pub TurnKeeps : World → ℕ → TurnMade → Type 0
 TurnKeeps w actor turn = IsOrderly turn.world × ((p : ℕ) → ¬ (p ≡ actor) → 1 ≤ p → IsSpared actor turn.world.state p → cost_of turn.world (processor_event turn.world p) ≡ cost_of w (processor_event w p))
 
 -- an event of a processor kills nobody
-not-killed : (s : State) (e : Event) (q t : ℕ) → processor_of e ≡ Some q → ¬ (killed_by s e ≡ Some t)
-not-killed s (event.Command command) q t on kills = cc
-not-killed s (event.Draw p d) q t on kills = cc
-not-killed s (event.Expire p) q t on kills = cc
-not-killed s (event.Trap p ran action) q t on kills = cc
-not-killed s (event.Preempt p ticks) q t on kills = cc
-not-killed s (event.Overrun p ticks) q t on kills = cc
-not-killed s (event.Wake u) q t on kills = cc
+not-killed : (s : State) (e : Event) (q t : ℕ) → processor_of e ≡ Some q → ¬ ((step s e).reply ≡ reply.Killed t)
+not-killed s e q t on kills = let never : None ≡ Some q = sym (event-kills s e t kills).0 ∙ on in cc
 
 processor-keeps : (w : World) (q : ℕ) (e : Event) → processor_of e ≡ Some q → IsOrderly w → TurnKeeps w q (processor_turn w q e)
 processor-keeps w q e on orderly =
@@ -194,7 +190,7 @@ processor-keeps w q e on orderly =
       },
       λ p other positive spared.
           let apart : ¬ (processor_of e ≡ Some p) = λ same. other (number p (sym same ∙ on)) in
-          let alive : (u : ℕ) → thread_on w.state.records p ≡ Some u → ¬ (killed_by w.state e ≡ Some u) = λ u found. not-killed w.state e q u on in
+          let alive : (u : ℕ) → thread_on w.state.records p ≡ Some u → ¬ ((step w.state e).reply ≡ reply.Killed u) = λ u found. not-killed w.state e q u on in
           cost-same (processor_turn w q e).world w p (step-limits w.state e) (step-used_there w.state e p orderly.order apart alive) (step-found w.state e p orderly.order apart alive)
           (λ t found. ap (λ o. unwrap_or o (record { rest = []; accumulator = 0 }))
           (contexts-kept w q t (step w.state e).reply (λ named is. named-apart w.state e p q named t on (λ same. other (sym same)) is found))),
@@ -203,13 +199,13 @@ processor-keeps w q e on orderly =
     number : (p : ℕ) → Some p ≡ Some q → p ≡ q
     number p same = cc
 
--- a wake names no thread that runs or ran
-wake-names : (s : State) (t : ℕ) → thread_in (step s (event.Wake t)).reply ≡ None
+-- a wake names no thread that runs or ran, and kills nobody
+wake-names : (s : State) (t : ℕ) → (thread_in (step s (event.Wake t)).reply ≡ None) × ((u : ℕ) → ¬ ((step s (event.Wake t)).reply ≡ reply.Killed u))
 wake-names s t = at (event_refusal s (event.Wake t))
   where
-    at : (o : Option Refusal) → thread_in (unless_refused s o (wake s t)).reply ≡ None
-    at None = refl
-    at (Some why) = refl
+    at : (o : Option Refusal) → (thread_in (unless_refused s o (wake s t)).reply ≡ None) × ((u : ℕ) → ¬ ((unless_refused s o (wake s t)).reply ≡ reply.Killed u))
+    at None = (refl, λ u e. cc)
+    at (Some why) = (refl, λ u e. cc)
 
 wake-keeps : (w : World) (actor t : ℕ) → IsOrderly w → TurnKeeps w actor (processor_turn w actor (event.Wake t))
 wake-keeps w actor t orderly =
@@ -220,17 +216,17 @@ wake-keeps w actor t orderly =
         contexts = omega (arith, orderly.contexts, sizes.1, contexts-length w actor (step w.state e).reply);
       },
       λ p other positive spared.
-          let alive : (u : ℕ) → thread_on w.state.records p ≡ Some u → ¬ (killed_by w.state e ≡ Some u) = λ u found. nobody u in
+          let alive : (u : ℕ) → thread_on w.state.records p ≡ Some u → ¬ ((step w.state e).reply ≡ reply.Killed u) = λ u found. (wake-names w.state t).1 u in
           cost-same (processor_turn w actor e).world w p (step-limits w.state e) (step-used_there w.state e p orderly.order (nobody p) alive) (step-found w.state e p orderly.order (nobody p) alive)
           (λ u found. ap (λ o. unwrap_or o (record { rest = []; accumulator = 0 }))
-          (contexts-kept w actor u (step w.state e).reply (λ named is. let none : None ≡ Some named = sym (wake-names w.state t) ∙ is in cc))),
+          (contexts-kept w actor u (step w.state e).reply (λ named is. let none : None ≡ Some named = sym (wake-names w.state t).0 ∙ is in cc))),
     )
   where
     nobody : (p : ℕ) → ¬ (None ≡ Some p)
     nobody p e = cc
 
 -- who runs on a processor wasn't killed if somebody runs there afterwards
-runs-on : (s : State) (e : Event) (p : ℕ) → IsInOrder s → is_none (thread_on (step s e).state.records p) ≡ false → (t : ℕ) → thread_on s.records p ≡ Some t → ¬ (killed_by s e ≡ Some t)
+runs-on : (s : State) (e : Event) (p : ℕ) → IsInOrder s → is_none (thread_on (step s e).state.records p) ≡ false → (t : ℕ) → thread_on s.records p ≡ Some t → ¬ ((step s e).reply ≡ reply.Killed t)
 runs-on s e p order runs t found kills = let idle : true ≡ false = sym (ap is_none (step-idle s e p t order kills found)) ∙ runs in cc
 
 command-keeps : (program : Program) (w : World) (c : Command) (cs : List Command) → IsOrderly w → TurnKeeps w 0 (command_turn program w c cs)

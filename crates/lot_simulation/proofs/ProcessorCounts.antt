@@ -1,4 +1,4 @@
--- The console and the timer win no draws and use no ticks, so what is counted of the processors adds up to what is counted of all.
+-- The console and the timer win no draws and use no ticks, so the processors' counts add up to the total.
 use Rattle.lot_simulation.proofs.Common.{ActorTurn, Bool, Command, List, None, Option, Program, Refusal, Reply, Some, State, Step, World, arith, beside, cases_lt, command_effect, command_refusal, command_step, cond, console_turn, count_in, eq-eqb, eqb-false, event_refusal, false, idles_in, inl, inr, leb-true, nat_le, ne_eqb, next_name, opening_world, processor_event, processor_turn, quanta_in, range_with_len, refl, resolved, step, sum-at_most, sum-nothing, sum-one, sum-plus, sum-same, sum_by, sum_by-cons, sym, system_answers, system_turn, ticks_in, total_of, true, turns_made, turns_of, unless_refused, wake, ℕ, [], ◌+◌, ◌-◌, ◌<◌, ◌==◌, ◌∙◌, ◌∷◌, ◌≡◌, ◌≤◌, ◌⊎◌}
 use Rattle.lot_machine.specs.declared.command.Command.TheVariants.{List as Listing}
 use Rattle.lot_machine.specs.declared.event.Event.TheVariants as event

@@ -1,4 +1,4 @@
--- The quanta and the ticks of the threads' records add up to what is counted in the turns that led to them.
+-- The quanta and the ticks of the threads' records add up to the counts of the turns that led to them.
 use Rattle.lot_simulation.proofs.Common.{Action, ActorTurn, After, Answered, BadProcessor, BadTicks, Bool, By, Command, Console, Drawn, Ends, Event, GoesOn, IsBetween, IsInOrder, IsTallied, IsWithinBounds, Keeps, Kill, Kills, Leaves, List, NewThread, None, NotRunning, Option, Program, PutRecord, Record, Refusal, ScriptTrap, Sizes, Slice, Some, State, Status, Step, ThreadRef, TrapRefusal, TurnMade, Work, World, actor_event, after_trap, all-pass, ap, arith, at_number, at_number-suc, beside, change_record, checked-leads, checked-sizes, checked_effect, command-leads, command_step, cond, console_turn, count_in, draw, event_effect, event_of_slice, expire, false, found-runs, free_threads, get_or, get_or-le-sum_by, get_or-map, get_or_from_slice_get, if◌then◌else◌, is_bad_processor, is_none, kept, length, ltb-false, map, map-set, min-eq_left, nat_le, nat_lt, newborn, next_name, number_of, numbered, opening, opening-order, opening_world, placed, processor_event, processor_turn, quanta_in, ready_threads, refl, resolved, saturated, set, set-get_or, set_number, slice_get, slice_get_within, slice_index, slice_on, slice_set, some-of, started, step, step-limits, step-order, subst, suc, sum, sum-map, sum_by, sum_by-cons, sum_by-set, sum_by_push, sym, system_after, system_answers, system_run, system_turn, thread_meant, thread_on, thread_there, ticks_in, total_of, trap, trap_effect, trap_refusal, true, turns_made, unless_refused, used_there, wake, weight_of, winner, with_ticks, zero, ℕ, [], ⊤, ◌*◌, ◌++◌, ◌+◌, ◌-◌, ◌<◌, ◌==◌, ◌^◌, ◌∙◌, ◌∷◌, ◌≡◌, ◌≤◌}
 use Rattle.lot_machine.specs.declared.record.Status.TheVariants as status
 use Rattle.lot_machine.specs.declared.event.Event.TheVariants as event

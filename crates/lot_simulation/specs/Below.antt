@@ -1,4 +1,4 @@
--- The currencies that threads stand below.
+-- The currencies above a thread.
 use Rattle.std.specs.Prelude.{ℕ, Bool, List, length, drop}
 use Rattle.std.specs.List.{list_any}
 use Rattle.lot_machine.specs.Funding.{Funding, backing_thread, reaches_within}
@@ -10,7 +10,8 @@ use Rattle.lot_machine.specs.Value.{currency_value, lenders_to}
 abbrev pub funds_thread : Funding → ℕ → ℕ → Bool
 funds_thread f c t = list_any (λ ticket. reaches_within (length f.currencies) f c ticket.issuer) (backing_thread f t)
 
--- whether the thread stands below the currency: that funds the thread, or one whose lends lead to it (4.4, 4.6, 6.1)
+-- whether the thread stands below the currency: a chain of tickets leads from the currency to it, or to a thread whose
+-- lends lead to it (4.4, 4.6, 6.1)
 abbrev pub stands_below : State → ℕ → ℕ → Bool
 stands_below s c t = list_any (funds_thread (funding_of s) c) (lenders_to (funding_of s) t)
 

@@ -1,24 +1,27 @@
 -- The meaning of an input, or the line on which it is refused.
-use Rattle.std.specs.Prelude.{ℕ, ◌+◌, ◌-◌, ◌%◌, max, ◌==◌, nat_lt, nat_le, Bool, true, false, not, ◌&&◌, ◌||◌, Option, Some, None, is_none, is_some, Result, Ok, Err, List, [], ◌∷◌, ◌++◌, length, map, sum_by, replicate, codes, unwrap_or, option_map, if◌then◌else◌}
+use Rattle.std.specs.Prelude.{ℕ, ◌+◌, ◌-◌, ◌%◌, max, ◌==◌, nat_lt, nat_le, Bool, true, false, not, ◌&&◌, ◌||◌, Option, Some, None, is_none, is_some, Result, Ok, Err, List, [], ◌∷◌, ◌++◌, length, drop, map, sum_by, replicate, codes, unwrap_or, option_map, if◌then◌else◌}
 use Rattle.std.specs.List.{flat_map, list_any, range_with_len}
 use Rattle.std.specs.Str.{bytes_eq}
 use Rattle.lot_simulation.specs.declared.script.ScriptLine.{ScriptLine}
 use Rattle.lot_simulation.specs.declared.script.ScriptLine.TheVariants as line
-use Rattle.lot_simulation.specs.declared.script.ScriptTrap.TheVariants as trap
 use Rattle.lot_machine.specs.declared.command.Command.{Command}
-use Rattle.lot_machine.specs.declared.command.Command.TheVariants.{MakeTicket, RemoveTicket, MakeCurrency, RemoveCurrency, Fund, Unfund, SetTicket, MakeThread, RemoveThread, Kill, MakeFunded, List as Listing}
-use Rattle.lot_machine.specs.declared.command.Kind.TheVariants.{Tickets, Currencies, Threads}
 use Rattle.lot_machine.specs.declared.reference.CurrencyRef.TheVariants as currency_ref
 use Rattle.lot_machine.specs.declared.reference.ThreadRef.TheVariants as thread_ref
 use Rattle.lot_machine.specs.declared.reference.TargetRef.TheVariants as target_ref
+use Rattle.lot_machine.specs.declared.verb.Slot.{Slot}
+use Rattle.lot_machine.specs.declared.verb.Slot.TheVariants as slot
+use Rattle.lot_machine.specs.Arguments.{Value}
+use Rattle.lot_machine.specs.Arguments as value
+use Rattle.lot_machine.specs.declared.verb.Verb.{Verb}
+use Rattle.lot_machine.specs.declared.verb.Verb.TheVariants as verb
+use Rattle.lot_machine.specs.Verbs.{command_from, form}
 use Rattle.lot_simulation.specs.declared.input.HeaderWord.{HeaderWord}
 use Rattle.lot_simulation.specs.declared.input.HeaderWord.TheVariants as header
+use Rattle.lot_simulation.specs.declared.input.Options.{Options}
 use Rattle.lot_simulation.specs.declared.input.BodyWord.{BodyWord}
 use Rattle.lot_simulation.specs.declared.input.BodyWord.TheVariants as body
 use Rattle.lot_simulation.specs.declared.input.ScriptWord.{ScriptWord}
 use Rattle.lot_simulation.specs.declared.input.ScriptWord.TheVariants as script
-use Rattle.lot_simulation.specs.declared.input.TicketRef.{TicketRef}
-use Rattle.lot_simulation.specs.declared.input.TicketRef.TheVariants.{Named, Numbered}
 use Rattle.lot_simulation.specs.declared.input.InputRefusal.{InputRefusal}
 use Rattle.lot_simulation.specs.declared.input.InputRefusal.TheVariants.{BadHeader, BadLine, OpenScript as ScriptIsOpen, TooDeep, TooLong}
 use Rattle.lot_simulation.specs.declared.input.InputFault.{InputFault}
@@ -26,10 +29,12 @@ use Rattle.lot_machine.specs.declared.sizes.Sizes.{Sizes}
 use Rattle.lot_simulation.specs.declared.separators.Separators.{Separators}
 use Rattle.lot_simulation.specs.declared.separators.Separators.TheVariants.{Blanks}
 use Rattle.lot_simulation.specs.Lines.{lines_of, without_end, separators_in, tokens_of, is_ignored, is_printable}
-use Rattle.lot_simulation.specs.Words.{word_in, header_words, timed_header_words, header_place, body_place, body_words, timed_body_words, script_words, timed_script_words}
-use Rattle.lot_simulation.specs.Reading.{OpenScript, Reading, opening_reading, ◌>>=◌, checked, each, each_pair, number_between, any_number, actor_below, any_name, any_ticket, new_name, known_name, script_number}
+use Rattle.lot_simulation.specs.Words.{word_in, header_words, timed_header_words, header_place, options_with, body_place, body_words, timed_body_words, script_words, timed_script_words}
+use Rattle.lot_simulation.specs.Reading.{OpenScript, Reading, opening_reading, ◌>>=◌, checked, only_token, each, each_pair, number_between, any_number, actor_below, any_name, any_ticket, new_name, known_name, script_number}
 use Rattle.lot_machine.specs.Lottery.{mixed_seed}
 use Rattle.lot_simulation.specs.World.{Program}
+use Rattle.lot_machine.specs.Actions.{TrapWord, with_numbers}
+use Rattle.lot_machine.specs.declared.trap.Trap.TheVariants as trap
 
 -- whether the duration, which a timed input must give, is still missing
 abbrev pub lacks_duration : Reading → Bool
@@ -50,20 +55,25 @@ first_line other = Err BadHeader
 -- The reading after `without` with this word, in a timed input: `compensation` or `lending`, each at most once.
 abbrev pub without_line : Reading → List ℕ → Result Reading InputRefusal
 without_line r mechanism =
-    if bytes_eq mechanism (codes "compensation") then checked ((not r.is_timed, BadLine) ∷ (r.without_compensation, BadHeader) ∷ []) (record r { without_compensation = true })
-    else if bytes_eq mechanism (codes "lending") then checked ((not r.is_timed, BadLine) ∷ (r.without_lending, BadHeader) ∷ []) (record r { without_lending = true })
+    if bytes_eq mechanism (codes "compensation") then checked ((not r.is_timed, BadLine) ∷ (r.options.without_compensation, BadHeader) ∷ []) (record r { options = record r.options { without_compensation = true } })
+    else if bytes_eq mechanism (codes "lending") then checked ((not r.is_timed, BadLine) ∷ (r.options.without_lending, BadHeader) ∷ []) (record r { options = record r.options { without_lending = true } })
     else Err BadLine
+
+-- The reading after a line of a word alone that chooses these options, if it chooses any, in a timed input.
+abbrev pub option_line : Reading → List (List ℕ) → Option Options → Result Reading InputRefusal
+option_line r [] (Some options) = checked ((not r.is_timed, BadLine) ∷ []) (record r { options = options })
+option_line r tokens chosen = Err BadLine
 
 -- the reading after a line of the header
 abbrev pub header_line : Reading → HeaderWord → List (List ℕ) → Result Reading InputRefusal
-header_line r header.Processors (p ∷ []) = do
-  processors ← number_between 1 64 p
+header_line r header.Processors tokens = do
+  processors ← only_token (number_between 1 64) tokens
   Ok (record r { processors = processors })
-header_line r header.Quantum (q ∷ []) = do
-  quantum ← number_between 1 1000 q
+header_line r header.Quantum tokens = do
+  quantum ← only_token (number_between 1 1000) tokens
   Ok (record r { quantum = quantum })
-header_line r header.Turns (t ∷ []) = do
-  turns ← number_between 0 10000 t
+header_line r header.Turns tokens = do
+  turns ← only_token (number_between 0 10000) tokens
   Ok (record r { turns = turns })
 header_line r header.For (t ∷ []) = do
   given ← checked ((not r.is_timed, BadLine) ∷ []) t
@@ -78,16 +88,14 @@ header_line r header.Limits (t ∷ c ∷ h ∷ []) = do
   currencies ← number_between 1 4096 c
   threads ← number_between 1 4096 h
   Ok (record r { tickets = tickets; currencies = currencies; threads = threads })
-header_line r header.Without (mechanism ∷ []) = without_line r mechanism
-header_line r header.Reuse [] = checked ((not r.is_timed, BadLine) ∷ []) (record r { reuse = true })
-header_line r header.Strict [] = checked ((not r.is_timed, BadLine) ∷ []) (record r { strict = true })
-header_line r word tokens = Err BadLine
+header_line r header.Without tokens = only_token (without_line r) tokens
+header_line r word tokens = option_line r tokens (options_with r.options word)
 
 -- whether the header has a line with this word
 abbrev pub has_line : Reading → HeaderWord → Bool
 has_line r word = list_any (λ given. header_place given == header_place word) r.given
 
--- whether the word was given and can't come again; `without` can, with another word
+-- whether the word was given and can't come again; `without` can come again, with its other word
 abbrev pub is_given : Reading → HeaderWord → Bool
 is_given r header.Without = false
 is_given r word = has_line r word
@@ -97,7 +105,8 @@ abbrev pub is_after_seed : Reading → HeaderWord → Bool
 is_after_seed r header.Processors = is_some r.seeds
 is_after_seed r word = false
 
--- whether a header line with this word comes too late: its place is passed, it was given, or `seed` was
+-- whether a header line with this word comes too late: its place is past, its word was given, or it is `processors`
+-- after `seed`
 abbrev pub is_late : Reading → HeaderWord → Bool
 is_late r word = nat_le (header_place word) r.place || is_given r word || is_after_seed r word
 
@@ -119,7 +128,7 @@ header_in_order r word tokens = do
 abbrev pub with_line : OpenScript → ScriptLine → OpenScript
 with_line s l = record s { lines = s.lines ++ l ∷ [] }
 
--- whether the script has as many lines as are allowed
+-- whether the script is full
 abbrev pub is_full : OpenScript → Bool
 is_full s = nat_le 1024 (length s.lines)
 
@@ -127,33 +136,38 @@ is_full s = nat_le 1024 (length s.lines)
 abbrev pub add_line : Reading → OpenScript → ScriptLine → Result Reading InputRefusal
 add_line r s l = checked ((is_full s, TooLong) ∷ []) (record r { unclosed = Some (with_line s l) })
 
+-- what a trap's word takes from the tokens, given the names of ports and mutexes: the number of its port or mutex, the
+-- ticks of its sleep, or 0 for nothing
+abbrev pub trap_number : List (List ℕ) → List (List ℕ) → TrapWord → List (List ℕ) → Result ℕ InputRefusal
+trap_number ports mutexes trap.Yield [] = Ok 0
+trap_number ports mutexes (trap.Reply s) [] = Ok 0
+trap_number ports mutexes (trap.Call o s) (name ∷ []) = known_name ports name
+trap_number ports mutexes (trap.Receive o) (name ∷ []) = known_name ports name
+trap_number ports mutexes (trap.Serve o s) (name ∷ []) = known_name ports name
+trap_number ports mutexes (trap.Lock o) (name ∷ []) = known_name mutexes name
+trap_number ports mutexes (trap.Unlock o d) (name ∷ []) = known_name mutexes name
+trap_number ports mutexes (trap.Sleep t) (n ∷ []) = number_between 1 4294967295 n
+trap_number ports mutexes word tokens = Err BadLine
+
 -- the reading after a line of a script
 abbrev pub script_line : Reading → OpenScript → ScriptWord → List (List ℕ) → Result Reading InputRefusal
-script_line r s script.Compute (n ∷ []) = do
-  ticks ← number_between 1 4294967295 n
+script_line r s script.Compute tokens = do
+  ticks ← only_token (number_between 1 4294967295) tokens
   add_line r s (line.Compute ticks)
-script_line r s script.Set (n ∷ []) = do
-  number ← number_between 0 4294967295 n
+script_line r s script.Set tokens = do
+  number ← only_token (number_between 0 4294967295) tokens
   add_line r s (line.Set number)
-script_line r s script.Add (n ∷ []) = do
-  number ← number_between 0 4294967295 n
+script_line r s script.Add tokens = do
+  number ← only_token (number_between 0 4294967295) tokens
   add_line r s (line.Add number)
-script_line r s script.Loop (n ∷ []) = do
-  times ← number_between 1 65535 n
+script_line r s script.Loop tokens = do
+  times ← only_token (number_between 1 65535) tokens
   checked ((nat_le 8 s.loops, TooDeep) ∷ (is_full s, TooLong) ∷ []) (record r { unclosed = Some (record (with_line s (line.Loop times)) { loops = s.loops + 1 }) })
 script_line r s script.End [] =
     checked ((s.loops == 0, BadLine) ∷ (is_full s, TooLong) ∷ []) (record r { unclosed = Some (record (with_line s line.End) { loops = s.loops - 1 }) })
-script_line r s script.Yield [] = add_line r s (line.Trap trap.Yield)
-script_line r s script.Reply [] = add_line r s (line.Trap trap.Reply)
-script_line r s (script.AtPort asked) (name ∷ []) = do
-  port ← known_name r.ports name
-  add_line r s (line.Trap (trap.AtPort asked port))
-script_line r s (script.OnMutex asked) (name ∷ []) = do
-  mutex ← known_name r.mutexes name
-  add_line r s (line.Trap (trap.OnMutex asked mutex))
-script_line r s script.Sleep (n ∷ []) = do
-  ticks ← number_between 1 4294967295 n
-  add_line r s (line.Trap (trap.Sleep ticks))
+script_line r s (script.Trap word) tokens = do
+  number ← trap_number r.ports r.mutexes word tokens
+  add_line r s (line.Trap (with_numbers word number tt tt number))
 script_line r s script.EndScript [] =
     checked ((nat_lt 0 s.loops, BadLine) ∷ []) (record r { unclosed = None; scripts = r.scripts ++ record { name = s.name; lines = s.lines } ∷ [] })
 script_line r s word tokens = Err BadLine
@@ -168,8 +182,8 @@ pub record Phrase : Type 0 where
 -- whether the word takes no argument; each other word takes one
 abbrev pub stands_alone : ScriptWord → Bool
 stands_alone script.End = true
-stands_alone script.Yield = true
-stands_alone script.Reply = true
+stands_alone (script.Trap trap.Yield) = true
+stands_alone (script.Trap (trap.Reply s)) = true
 stands_alone script.EndScript = true
 stands_alone word = false
 
@@ -190,7 +204,7 @@ phrases_of (word ∷ next ∷ tokens) =
 abbrev pub script_names : Reading → List (List ℕ)
 script_names r = map (λ s. s.name) r.scripts
 
--- this for the next command, if the input is timed
+-- a list of this for the next command in a timed input, otherwise empty
 abbrev pub in_time : {A : Type 0} → Reading → A → List A
 in_time r x = if r.is_timed then x ∷ [] else []
 
@@ -198,24 +212,6 @@ in_time r x = if r.is_timed then x ∷ [] else []
 abbrev pub add_naming : Reading → Option ℕ → Command → Result Reading InputRefusal
 add_naming r name c =
     checked ((nat_le 100000 (length r.commands), TooLong) ∷ []) (record r { commands = r.commands ++ c ∷ []; names = r.names ++ in_time r name; times = r.times ++ in_time r r.time })
-
--- the reading after one more command, which names no ticket
-abbrev pub add_command : Reading → Command → Result Reading InputRefusal
-add_command r c = add_naming r None c
-
--- the ticket's number in a command, or 0 for a name
-abbrev pub ticket_number : TicketRef → ℕ
-ticket_number (Numbered number) = number
-ticket_number (Named name) = 0
-
--- the number of the ticket's name, if the command names it
-abbrev pub ticket_name : TicketRef → Option ℕ
-ticket_name (Numbered number) = None
-ticket_name (Named name) = Some name
-
--- the reading after one more command for this ticket
-abbrev pub add_for_ticket : Reading → TicketRef → (ℕ → Command) → Result Reading InputRefusal
-add_for_ticket r ticket c = add_naming r (ticket_name ticket) (c (ticket_number ticket))
 
 -- whether the word stands before the name of a new ticket; only a timed input has such names
 abbrev pub names_ticket : Reading → List ℕ → Bool
@@ -233,6 +229,79 @@ add_named r token c = do
   named ← add_ticket_name r token
   add_naming named (Some (length named.ticket_names)) c
 
+-- ---- lines of commands
+
+-- the argument of this kind that a token means
+abbrev pub value_from : Reading → Slot → List ℕ → Result Value InputRefusal
+value_from r slot.Amount token = do
+  amount ← any_number token
+  Ok (value.Amount amount)
+value_from r slot.Ticket token = any_ticket r token
+value_from r slot.Currency token = do
+  name ← any_name token
+  Ok (value.Currency (currency_ref.Named name))
+value_from r slot.Target token = do
+  name ← any_name token
+  Ok (value.Target (target_ref.Named name))
+value_from r slot.Thread token = do
+  name ← any_name token
+  Ok (value.Thread (thread_ref.Named name))
+value_from r slot.Name token = do
+  name ← any_name token
+  Ok (value.Name name)
+value_from r slot.Script token = do
+  number ← script_number (script_names r) token
+  Ok (value.Script number)
+
+-- the arguments of these kinds from the first tokens, one each, from left to right
+abbrev pub values_from : Reading → List Slot → List (List ℕ) → Result (List Value) InputRefusal
+values_from r [] tokens = Ok []
+values_from r (kind ∷ kinds) [] = Err BadLine
+values_from r (kind ∷ kinds) (token ∷ tokens) = do
+  first ← value_from r kind token
+  others ← values_from r kinds tokens
+  Ok (first ∷ others)
+
+-- the number of the name of the first ticket that has one
+abbrev pub name_in : List Value → Option ℕ
+name_in [] = None
+name_in (value.NamedTicket name ∷ others) = Some name
+name_in (other ∷ others) = name_in others
+
+-- the argument with this number in the place of a ticket's name
+abbrev pub numbered : ℕ → Value → Value
+numbered ticket (value.NamedTicket name) = value.Ticket ticket
+numbered ticket other = other
+
+-- whether the command makes a ticket, which can have a name
+abbrev pub makes_ticket : Verb → Bool
+makes_ticket verb.MakeTicket = true
+makes_ticket verb.MakeFunded = true
+makes_ticket other = false
+
+-- the name of a new ticket in the tokens after a command's arguments, if they are `as` and a name
+abbrev pub name_at_end : Reading → Verb → List (List ℕ) → Result (Option (List ℕ)) InputRefusal
+name_at_end r v [] = Ok None
+name_at_end r v (word ∷ token ∷ []) = if makes_ticket v && names_ticket r word then Ok (Some token) else Err BadLine
+name_at_end r v other = Err BadLine
+
+-- The reading after this command, if there is one: the ticket that it makes has this name, or it names a ticket in
+-- these arguments.
+abbrev pub add_made : Reading → Option (List ℕ) → List Value → Option Command → Result Reading InputRefusal
+add_made r name values None = Err BadLine
+add_made r None values (Some c) = add_naming r (name_in values) c
+add_made r (Some token) values (Some c) = add_named r token c
+
+-- The reading after a line of a command: its arguments, one token each, and for a new ticket perhaps a name.
+abbrev pub command_line : Reading → Verb → List (List ℕ) → Result Reading InputRefusal
+command_line r v tokens = do
+  given ← checked ((nat_lt (length tokens) (length (form v)), BadLine) ∷ []) tokens
+  name ← name_at_end r v (drop (length (form v)) given)
+  values ← values_from r (form v) given
+  add_made r name values (command_from v (map (numbered 0) values))
+
+-- ---- other lines of the body
+
 -- several turns of one actor in a row
 pub record ActorRun : Type 0 where
   pub actor : ℕ
@@ -249,7 +318,7 @@ run_of processors first second = do
 abbrev pub actors_of : List ActorRun → List ℕ
 actors_of runs = flat_map (λ run. replicate run.count run.actor) runs
 
--- the schedule extended by the actors of these runs
+-- the schedule with the actors of these runs at its end
 abbrev pub add_runs : Reading → List ActorRun → Result Reading InputRefusal
 add_runs r runs = do
   fitting ← checked ((nat_lt 1000000 (length r.schedule + sum_by (λ run. run.count) runs), TooLong) ∷ []) runs
@@ -258,72 +327,18 @@ add_runs r runs = do
 -- The reading after a line of the body. An input with unit 1 has no runs, and a timed input neither runs nor a
 -- schedule. Times never decrease.
 abbrev pub body_line : ℕ → Reading → BodyWord → List (List ℕ) → Result Reading InputRefusal
-body_line n r body.Port (token ∷ []) = do
-  name ← new_name r.ports token
+body_line n r body.Port tokens = do
+  name ← only_token (new_name r.ports) tokens
   checked ((nat_le 256 (length r.ports), TooLong) ∷ []) (record r { ports = r.ports ++ name ∷ [] })
-body_line n r body.Mutex (token ∷ []) = do
-  name ← new_name r.mutexes token
+body_line n r body.Mutex tokens = do
+  name ← only_token (new_name r.mutexes) tokens
   checked ((nat_le 256 (length r.mutexes), TooLong) ∷ []) (record r { mutexes = r.mutexes ++ name ∷ [] })
-body_line n r body.Script (token ∷ []) = do
-  name ← new_name (script_names r) token
+body_line n r body.Script tokens = do
+  name ← only_token (new_name (script_names r)) tokens
   checked ((nat_le 256 (length r.scripts), TooLong) ∷ []) (record r { unclosed = Some (record { name = name; begins = n; lines = []; loops = 0 }) })
-body_line n r body.MakeTicket (a ∷ c ∷ []) = do
-  amount ← any_number a
-  currency ← any_name c
-  add_command r (MakeTicket amount (currency_ref.Named currency))
-body_line n r body.MakeTicket (a ∷ c ∷ word ∷ token ∷ []) = do
-  given ← checked ((not (names_ticket r word), BadLine) ∷ []) a
-  amount ← any_number given
-  currency ← any_name c
-  add_named r token (MakeTicket amount (currency_ref.Named currency))
-body_line n r body.RemoveTicket (t ∷ []) = do
-  ticket ← any_ticket r t
-  add_for_ticket r ticket RemoveTicket
-body_line n r body.MakeCurrency (token ∷ []) = do
-  name ← any_name token
-  add_command r (MakeCurrency name)
-body_line n r body.RemoveCurrency (c ∷ []) = do
-  currency ← any_name c
-  add_command r (RemoveCurrency (currency_ref.Named currency))
-body_line n r body.Fund (t ∷ to ∷ []) = do
-  ticket ← any_ticket r t
-  target ← any_name to
-  add_for_ticket r ticket (λ number. Fund number (target_ref.Named target))
-body_line n r body.Unfund (t ∷ []) = do
-  ticket ← any_ticket r t
-  add_for_ticket r ticket Unfund
-body_line n r body.SetTicket (t ∷ a ∷ []) = do
-  ticket ← any_ticket r t
-  amount ← any_number a
-  add_for_ticket r ticket (λ number. SetTicket number amount)
-body_line n r body.RemoveThread (token ∷ []) = do
-  thread ← any_name token
-  add_command r (RemoveThread (thread_ref.Named thread))
-body_line n r body.Kill (token ∷ []) = do
-  thread ← any_name token
-  add_command r (Kill (thread_ref.Named thread))
-body_line n r body.MakeThread (token ∷ s ∷ []) = do
-  name ← any_name token
-  number ← script_number (script_names r) s
-  add_command r (MakeThread name number)
-body_line n r body.MakeFunded (a ∷ c ∷ token ∷ s ∷ []) = do
-  amount ← any_number a
-  currency ← any_name c
-  name ← any_name token
-  number ← script_number (script_names r) s
-  add_command r (MakeFunded amount (currency_ref.Named currency) name number)
-body_line n r body.MakeFunded (a ∷ c ∷ token ∷ s ∷ word ∷ ticket ∷ []) = do
-  given ← checked ((not (names_ticket r word), BadLine) ∷ []) a
-  amount ← any_number given
-  currency ← any_name c
-  name ← any_name token
-  number ← script_number (script_names r) s
-  add_named r ticket (MakeFunded amount (currency_ref.Named currency) name number)
-body_line n r body.ListTickets [] = add_command r (Listing Tickets)
-body_line n r body.ListCurrencies [] = add_command r (Listing Currencies)
-body_line n r body.ListThreads [] = add_command r (Listing Threads)
-body_line n r body.At (t ∷ []) = do
-  time ← number_between r.time 4294967295 t
+body_line n r (body.Command v) tokens = command_line r v tokens
+body_line n r body.At tokens = do
+  time ← only_token (number_between r.time 4294967295) tokens
   Ok (record r { time = time })
 body_line n r body.Schedule (first ∷ others) = do
   tokens ← checked ((r.is_timed, BadLine) ∷ []) (first ∷ others)
@@ -443,10 +458,10 @@ limits_of r = record {
   scripts = length r.scripts;
   quantum = r.quantum;
   unit = r.unit;
-  reuse = r.reuse;
+  reuse = r.options.reuse;
   plain_names = false;
-  without_compensation = r.without_compensation;
-  without_lending = r.without_lending;
+  without_compensation = r.options.without_compensation;
+  without_lending = r.options.without_lending;
   queued_lend = false;
 }
 
@@ -454,7 +469,7 @@ limits_of r = record {
 abbrev pub default_seeds : Reading → List ℕ
 default_seeds r = if r.is_timed then map mixed_seed (range_with_len 1 r.processors) else range_with_len 1 r.processors
 
--- the program that was read
+-- the program of this reading
 abbrev pub program_of : Reading → Program
 program_of r = record {
   limits = limits_of r;
@@ -467,7 +482,7 @@ program_of r = record {
   times = r.times;
   ticket_names = length r.ticket_names;
   names = r.names;
-  strict = r.strict;
+  options = r.options;
 }
 
 -- A script left open is refused on the line where it begins.

@@ -22,12 +22,14 @@ pub mod Texts
 pub mod Report
 -- Timed inputs: turns in time order.
 pub mod Timed
--- The currencies that threads stand below.
+-- The currencies above a thread.
 pub mod Below
 -- The report of a timed input.
 pub mod TimedReport
 -- The whole output of the program.
 pub mod Output
+-- The first few items of a kind.
+pub mod Kept
 -- Programs with seeds that are computed from one given number.
 pub mod Seeded
 -- Small inputs, and the output for them.

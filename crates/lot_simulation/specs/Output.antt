@@ -19,7 +19,7 @@ abbrev pub answer_text : LineStyle → State → TurnAnswer → List ℕ
 answer_text style s (Answered e r) = reply_text style s e r
 answer_text style s Ended = refused 41 (codes "Ended") ++ newline
 
--- The actor as it is printed: the timer is the one after the processors, whichever thread it wakes.
+-- the actor in print: the timer is the actor after the processors, whichever thread it wakes
 abbrev pub printed_actor : State → ℕ → ℕ
 printed_actor s actor = min actor (s.limits.processors + 1)
 

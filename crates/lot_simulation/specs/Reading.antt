@@ -1,15 +1,17 @@
 -- The part of an input read so far, and the meaning of tokens.
-use Rattle.std.specs.Prelude.{ℕ, ◌+◌, ◌-◌, ◌^◌, nat_lt, Bool, false, not, ◌&&◌, ◌||◌, Option, Some, None, is_none, Result, Ok, Err, List, [], ◌∷◌, length, position, option_map, unwrap_or, if◌then◌else◌}
+use Rattle.std.specs.Prelude.{ℕ, ◌+◌, ◌-◌, ◌^◌, nat_lt, Bool, not, ◌&&◌, ◌||◌, Option, Some, None, is_none, Result, Ok, Err, List, [], ◌∷◌, length, position, option_map, unwrap_or, if◌then◌else◌}
 use Rattle.std.specs.Str.{bytes_eq}
 use Rattle.lot_simulation.specs.declared.script.ScriptLine.{ScriptLine}
 use Rattle.lot_machine.specs.declared.command.Command.{Command}
+use Rattle.lot_machine.specs.Arguments.{Value, NamedTicket, Ticket}
 use Rattle.lot_simulation.specs.declared.input.HeaderWord.{HeaderWord}
-use Rattle.lot_simulation.specs.declared.input.TicketRef.{TicketRef}
-use Rattle.lot_simulation.specs.declared.input.TicketRef.TheVariants.{Named, Numbered}
+use Rattle.lot_simulation.specs.declared.input.Options.{Options}
 use Rattle.lot_simulation.specs.declared.input.InputRefusal.{InputRefusal}
 use Rattle.lot_simulation.specs.declared.input.InputRefusal.TheVariants.{BadLine, BadNumber, UnknownName, TooLong, BadActor}
 use Rattle.lot_machine.specs.Commands.{first_failing, is_good_name}
+pub use Rattle.lot_machine.specs.Verbs.{◌>>=◌}
 use Rattle.lot_simulation.specs.Lines.{number_of}
+use Rattle.lot_simulation.specs.Words.{no_options}
 
 -- a closed script
 pub record NamedScript : Type 0 where
@@ -24,7 +26,7 @@ pub record OpenScript : Type 0 where
   pub loops : ℕ
 
 -- The contents of the lines read so far. Header lines up to the place come too late: the place is that of the last
--- header line, or 0 in a timed input, and 10 from the body on.
+-- header line, or 0 in a timed input, and that of the body from there on.
 pub record Reading : Type 0 where
   pub place : ℕ
   pub given : List HeaderWord  -- the words of the header lines so far, after the first line
@@ -38,10 +40,7 @@ pub record Reading : Type 0 where
   pub tickets : ℕ
   pub currencies : ℕ
   pub threads : ℕ
-  pub reuse : Bool  -- whether numbers are given again
-  pub without_compensation : Bool  -- whether no thread is compensated
-  pub without_lending : Bool  -- whether blocked threads lend to nobody
-  pub strict : Bool  -- whether a refused command or trap ends the play
+  pub options : Options
   pub ports : List (List ℕ)  -- names, as for mutexes
   pub mutexes : List (List ℕ)
   pub scripts : List NamedScript
@@ -68,10 +67,7 @@ opening_reading is_timed unit = record {
   tickets = 65535;
   currencies = 4096;
   threads = 4096;
-  reuse = false;
-  without_compensation = false;
-  without_lending = false;
-  strict = false;
+  options = no_options;
   ports = [];
   mutexes = [];
   scripts = [];
@@ -86,12 +82,6 @@ opening_reading is_timed unit = record {
 
 -- ---- results
 
-infixl 10 ◌>>=◌
--- continues with the value; a refusal stops here
-abbrev pub ◌>>=◌ : {A B E : Type 0} → Result A E → (A → Result B E) → Result B E
-(Ok x) >>= f = f x
-(Err e) >>= f = Err e
-
 -- x, or the refusal of the first check that fails
 abbrev pub checked : {A : Type 0} → List (Bool × InputRefusal) → A → Result A InputRefusal
 checked {A} checks x = made (first_failing checks)
@@ -99,6 +89,11 @@ checked {A} checks x = made (first_failing checks)
     made : Option InputRefusal → Result A InputRefusal
     made None = Ok x
     made (Some refusal) = Err refusal
+
+-- reads the only token; none and several are refused
+abbrev pub only_token : {A : Type 0} → (List ℕ → Result A InputRefusal) → List (List ℕ) → Result A InputRefusal
+only_token read (token ∷ []) = read token
+only_token read tokens = Err BadLine
 
 -- reads each token, from left to right
 abbrev pub each : {A : Type 0} → (List ℕ → Result A InputRefusal) → List (List ℕ) → Result (List A) InputRefusal
@@ -152,17 +147,17 @@ abbrev pub any_name : List ℕ → Result (List ℕ) InputRefusal
 any_name token = checked ((is_long_name token, TooLong) ∷ []) token
 
 -- the ticket that these names mean, in a timed input
-abbrev pub named_ticket : Option ℕ → Result TicketRef InputRefusal
+abbrev pub named_ticket : Option ℕ → Result Value InputRefusal
 named_ticket None = Err UnknownName
-named_ticket (Some name) = Ok (Named name)
+named_ticket (Some name) = Ok (NamedTicket name)
 
 -- A ticket in a command: its number, which the kernel then judges, or in a timed input a name that an earlier line
 -- gave.
-abbrev pub any_ticket : Reading → List ℕ → Result TicketRef InputRefusal
+abbrev pub any_ticket : Reading → List ℕ → Result Value InputRefusal
 any_ticket r token = made (number_of token)
   where
-    made : Option ℕ → Result TicketRef InputRefusal
-    made (Some number) = Ok (Numbered number)
+    made : Option ℕ → Result Value InputRefusal
+    made (Some number) = Ok (Ticket number)
     made None = if r.is_timed && is_good_name token then named_ticket (number_named r.ticket_names token) else Err BadNumber
 
 -- the name of a new port, mutex, script or ticket: a good one that no other of its kind has

@@ -95,7 +95,7 @@ abbrev pub with_first : {A : Type 0} → A → List (List A) → List (List A)
 with_first x [] = (x ∷ []) ∷ []
 with_first x (xs ∷ others) = (x ∷ xs) ∷ others
 
--- The list in groups: the first has at most this room, and each later one at most this size.
+-- The list in groups. The first has at most this room, and each later one at most this size.
 abbrev pub groups_after : {A : Type 0} → ℕ → ℕ → List A → List (List A)
 groups_after size room [] = []
 groups_after size zero (x ∷ xs) = [] ∷ with_first x (groups_after size (size - 1) xs)

@@ -1,7 +1,7 @@
 -- Small inputs, and the output for them.
 use Rattle.std.specs.Prelude.{ℕ, Bool, Result, Ok, Err, List, [], ◌∷◌, ◌++◌, codes, replicate}
 use Rattle.std.specs.List.{flat_map}
-use Rattle.lot_machine.specs.declared.action.Action.{Action}
+use Rattle.lot_machine.specs.Actions.{Action}
 use Rattle.lot_machine.specs.declared.event.Event.TheVariants.{Expire, Trap}
 use Rattle.lot_machine.specs.declared.record.Status.{Status}
 use Rattle.lot_machine.specs.declared.refusal.Refusal.{Refusal}
@@ -196,7 +196,7 @@ is_without bytes = do
   program ← program_in bytes
   Ok (program.limits.without_compensation, program.limits.without_lending)
 
--- ---- timed inputs with room for few turns
+-- ---- timed inputs with a small limit on turns
 
 -- the output for a program that makes at most this many timed turns, or the line for a refused input
 abbrev pub few_turns_of : ℕ → Result Program InputFault → List ℕ

@@ -1,10 +1,13 @@
--- The meaning of a script, and the slices of it that a processor runs.
+-- The meaning of a script, and the slices of it that a processor runs. A script unrolls into marks (m), each worth one
+-- tick, and traps:
+--
+--     loop 2, compute 1, end, yield   →   m   m m   m m   yield   exit
 use Rattle.std.specs.Prelude.{ℕ, ◌+◌, ◌%◌, min, nat_lt, Bool, Option, Some, None, is_none, List, [], ◌∷◌, ◌++◌, take, drop, replicate, fold, slice_get, option_and_then, if◌then◌else◌}
 use Rattle.std.specs.List.{repeat, prefix_len}
 use Rattle.lot_simulation.specs.declared.script.ScriptLine.{ScriptLine}
 use Rattle.lot_simulation.specs.declared.script.ScriptLine.TheVariants as line
-use Rattle.lot_simulation.specs.declared.script.ScriptTrap.{ScriptTrap}
-use Rattle.lot_simulation.specs.declared.script.ScriptTrap.TheVariants.{Yield, Sleep, Exit}
+use Rattle.lot_machine.specs.Actions.{ScriptTrap}
+use Rattle.lot_machine.specs.declared.trap.Trap.TheVariants.{Yield, Sleep, Exit}
 
 -- one step of a script: a mark, which costs one tick, or a trap
 pub data Item : Type 0 where
@@ -48,7 +51,7 @@ pieces (l ∷ lines) = record { first = items_of l ++ (pieces lines).first; othe
 abbrev pub unrolled : List ScriptLine → List Item
 unrolled lines = (pieces lines).first
 
--- A line as a run without time takes it: there a sleep ends at once, so it is a yield.
+-- A line in a free run, which has no time: a sleep ends at once, so it is a yield.
 abbrev pub without_sleep : ScriptLine → ScriptLine
 without_sleep (line.Trap (Sleep n)) = line.Trap Yield
 without_sleep other = other
@@ -77,14 +80,13 @@ accumulated a (Set n) = n
 accumulated a (Add n) = (a + n) % 4294967296
 accumulated a other = a
 
--- the work of a thread within a budget of ticks: ticks of work, and then a trap or, without one, the end of its
--- quantum
+-- a thread's work within a budget of ticks: ticks of work, and then a trap or, without one, the end of its quantum
 pub record Slice : Type 0 where
   pub ticks : ℕ
   pub trap : Option ScriptTrap
   pub end : Context
 
--- the rest of a script after a trap; it stays at its exit
+-- the rest of a script after a trap; an exit stays at its place
 abbrev pub rest_after : List Item → Option ScriptTrap → List Item
 rest_after rest (Some Exit) = rest
 rest_after rest trap = drop 1 rest

@@ -3,8 +3,8 @@ use Rattle.std.specs.Prelude.{ℕ, ◌*◌, ◌/◌, ◌%◌, ◌==◌, Bool, tr
 use Rattle.std.specs.List.{flat_map, range_with_len}
 use Rattle.std.specs.Option.{option_map_or}
 use Rattle.std.specs.Fmt.{decimal}
-use Rattle.lot_machine.specs.declared.action.Action.{Action}
-use Rattle.lot_machine.specs.declared.action.Action.TheVariants as action
+use Rattle.lot_machine.specs.Actions.{Action}
+use Rattle.lot_machine.specs.declared.trap.Trap.TheVariants as action
 use Rattle.lot_machine.specs.declared.command.Kind.{Kind}
 use Rattle.lot_machine.specs.declared.command.Kind.TheVariants.{Tickets, Currencies, Threads}
 use Rattle.lot_machine.specs.declared.event.Event.{Event}
@@ -42,7 +42,7 @@ abbrev pub front : LineStyle → List ℕ
 front Whole = []
 front (Timed time) = decimal time ++ codes " "
 
--- thousandths as a point and up to three digits, without zeros at the end; nothing for 0
+-- thousandths as a point and up to three digits, without trailing zeros; no text for 0
 abbrev pub behind_point : ℕ → List ℕ
 behind_point m =
     if m == 0 then []
@@ -50,16 +50,16 @@ behind_point m =
     else if m % 10 == 0 then codes "." ++ (decimal (m / 100) ++ decimal (m / 10 % 10))
     else codes "." ++ (decimal (m / 100) ++ (decimal (m / 10 % 10) ++ decimal (m % 10)))
 
--- the quotient, with at most three digits after the point; further digits are cut off
+-- the quotient, truncated to three digits after the point
 abbrev pub quotient_text : ℕ → ℕ → List ℕ
 quotient_text n d = decimal (n / d) ++ behind_point (n % d * 1000 / d)
 
--- a value, given in this many base units per unit
+-- a value in units, given in base units
 abbrev pub value_text : LineStyle → ℕ → ℕ → List ℕ
 value_text Whole unit value = decimal (value / unit)
 value_text (Timed time) unit value = quotient_text value unit
 
--- a drawn number, or the total that it was drawn from; whole style prints it in base units
+-- a drawn number, or the total of its draw; whole style prints it in base units
 abbrev pub drawn_value : LineStyle → ℕ → ℕ → List ℕ
 drawn_value Whole unit n = decimal n
 drawn_value (Timed time) unit n = quotient_text n unit
@@ -198,7 +198,7 @@ trap_text style unit (action.Lock mutex) outcome.Locked = codes "lock " ++ (deci
 trap_text style unit (action.Lock mutex) outcome.Waits = codes "lock " ++ (decimal mutex ++ codes " waits")
 trap_text style unit (action.Unlock mutex d) outcome.Freed = codes "unlock " ++ (decimal mutex ++ codes " free")
 trap_text style unit (action.Unlock mutex d) (outcome.Passed to drawn) = codes "unlock " ++ (decimal mutex ++ (codes " to " ++ (decimal to ++ drawn_text style unit drawn)))
-trap_text style unit action.Sleep outcome.Slept = codes "sleep"
+trap_text style unit (action.Sleep n) outcome.Slept = codes "sleep"
 trap_text style unit action.Exit outcome.Exited = codes "exit"
 trap_text style unit other never = []
 
@@ -207,7 +207,7 @@ abbrev pub trap_text_of : LineStyle → ℕ → Event → Outcome → List ℕ
 trap_text_of style unit (event.Trap p ran made) came = trap_text style unit made came
 trap_text_of style unit other came = []
 
--- the mark for a used-up quantum, if it is
+-- the mark of a used-up quantum, or no text
 abbrev pub ends_text : Bool → List ℕ
 ends_text true = codes " ends"
 ends_text false = []
@@ -274,7 +274,7 @@ listing_text style s Threads =
 
 -- ---- replies
 
--- what was done: a command, or a wake, with its thread
+-- a done command, or a wake with its thread
 abbrev pub done_text : Event → List ℕ
 done_text (event.Wake thread) = codes "wake thread " ++ decimal thread
 done_text other = codes "done"
@@ -291,6 +291,7 @@ plain_text style unit e (reply.Currency n) = codes "currency " ++ (decimal n ++ 
 plain_text style unit e (reply.Thread n) = codes "thread " ++ (decimal n ++ newline)
 plain_text style unit e (reply.Funded ticket thread) = codes "funded " ++ (decimal ticket ++ (codes " " ++ (decimal thread ++ newline)))
 plain_text style unit e reply.Done = done_text e ++ newline
+plain_text style unit e (reply.Killed thread) = codes "done" ++ newline
 plain_text style unit e (reply.List kind) = []
 plain_text style unit e (reply.Winner thread number total delivered) =
     codes "draw " ++ (drawn_value style unit number ++ (codes " of " ++ (drawn_value style unit total ++ (codes " thread " ++ (decimal thread ++ (delivered_text delivered ++ newline))))))

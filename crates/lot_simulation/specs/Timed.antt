@@ -15,8 +15,8 @@ use Rattle.lot_simulation.specs.declared.timed.Sleeper.{Sleeper}
 use Rattle.lot_simulation.specs.World.{Program, World, TurnAnswer, TurnMade, opening_world, processor_event, sleeper_on, system_turn}
 use Rattle.lot_simulation.specs.World.TurnAnswer.{Answered}
 
--- a world at a time: each processor's clock, the times of the remaining commands, when each sleeping thread wakes, and
--- whether a command or a trap was refused so far
+-- a world at a time: each processor's clock, the times of the remaining commands, the wake time of each sleeping
+-- thread, and whether a command or a trap was refused so far
 pub record Moment : Type 0 where
   pub world : World
   pub time : ℕ  -- the time of the last turn
@@ -53,7 +53,7 @@ cost_of w other = 0
 abbrev pub console_due : Moment → List Due
 console_due m = map (λ time. record { time = time; actor = 0 }) (take 1 m.times)
 
--- the timer's turn for a thread, if that sleeps
+-- the timer's turn for a thread, if the thread sleeps
 abbrev pub alarm_due : Program → (ℕ → Option ℕ) → ℕ → List Due
 alarm_due program alarms t = option_map_or (λ time. record { time = time; actor = program.limits.processors + t } ∷ []) (alarms t) []
 
@@ -100,9 +100,9 @@ end_of program = unwrap_or program.duration 0
 abbrev pub following : Program → Moment → Option Due
 following program m = within (end_of program) (earliest (all_due program m))
 
--- whether a refusal has ended the play, as it does in a strict program
+-- whether a refusal has ended the play, as one does in a strict program
 abbrev pub is_stopped : Program → Moment → Bool
-is_stopped program m = program.strict && m.has_refused
+is_stopped program m = program.options.strict && m.has_refused
 
 -- the next turn: the one that follows, unless a refusal has ended the play
 abbrev pub next_due : Program → Moment → Option Due
@@ -123,8 +123,8 @@ idle_to time clock = record { time = time; waits = false; idle = clock.idle + (t
 abbrev pub woken : ℕ → Clock → Clock
 woken time clock = if clock.waits then idle_to time clock else clock
 
--- A processor's clock after a turn of the console, in the state after it. The wait of the processor, if any, ends. So
--- does the slice of a thread that was killed there: nobody is charged for what it ran since its processor's last turn.
+-- A processor's clock after a turn of the console, in the state after it. The processor's wait, if any, ends. So does
+-- the slice of a thread killed there: nobody is charged for the ticks since its processor's last turn.
 abbrev pub clock_after_console : State → ℕ → List Clock → ℕ → Clock
 clock_after_console s time clocks p =
     if (clock_of clocks p).waits || is_none (thread_on s.records p) then idle_to time (clock_of clocks p) else clock_of clocks p
@@ -158,7 +158,7 @@ turn_due program m due = record { time = due.time; actor = due.actor; turn = sys
 abbrev pub set_alarm : (ℕ → Option ℕ) → ℕ → Option ℕ → ℕ → Option ℕ
 set_alarm alarms t alarm u = if u == t then alarm else alarms u
 
--- the alarms after a turn at this time, with which this thread, if any, went to sleep
+-- the alarms after a turn at this time, in which this thread, if any, went to sleep
 abbrev pub alarms_asleep : (ℕ → Option ℕ) → ℕ → Option Sleeper → ℕ → Option ℕ
 alarms_asleep alarms time None = alarms
 alarms_asleep alarms time (Some sleeper) = set_alarm alarms sleeper.thread (Some (time + sleeper.ticks))
@@ -195,7 +195,7 @@ abbrev pub due_first : Program → Moment → (TimedTurn → List TimedTurn) →
 due_first program m others None = []
 due_first program m others (Some due) = turn_due program m due ∷ others (turn_due program m due)
 
--- the turns from a moment on, as far as there is room
+-- the turns from a moment on, up to this many
 abbrev pub turns_from : Program → ℕ → Moment → List TimedTurn
 turns_from program zero m = []
 turns_from program (suc room) m = due_first program m (λ done. turns_from program room (moment_after m done)) (next_due program m)
@@ -205,8 +205,8 @@ abbrev pub moment_after_all : Moment → List TimedTurn → Moment
 moment_after_all m [] = m
 moment_after_all m (done ∷ others) = moment_after_all (moment_after m done) others
 
--- The largest number of turns of a timed input. A proof sees this number only if it asks for it, since the turns are
--- defined by recursion on it.
+-- The limit on the turns of a timed input. A proof unfolds this number only on request, since the turns are defined by
+-- recursion on it.
 unfoldable pub timed_room : ℕ
 timed_room = 16000000
 
@@ -222,8 +222,8 @@ timed_schedule program = map (λ done. done.actor) (timed_turns program)
 abbrev pub last_moment : Program → Moment
 last_moment program = moment_after_all (opening_moment program) (timed_turns program)
 
--- The time at which the play ends: the end that the input gives, or the last turn's time if another turn would follow
--- but there was no more room, or a refusal ended the play.
+-- The time at which the play ends: the input's end, or the last turn's time if another turn would follow but the limit
+-- on turns is reached, or a refusal ended the play.
 abbrev pub ended_at : Program → Moment → ℕ
 ended_at program m = made (following program m)
   where

@@ -3,7 +3,7 @@ use Rattle.std.specs.Prelude.{ℕ, ◌+◌, ◌-◌, ◌*◌, ◌/◌, ◌^◌, 
 use Rattle.std.specs.List.{flat_map, range_with_len}
 use Rattle.std.specs.Option.{option_map, option_map_or}
 use Rattle.std.specs.Fmt.{decimal}
-use Rattle.lot_machine.specs.declared.action.Action.TheVariants as action
+use Rattle.lot_machine.specs.declared.trap.Trap.TheVariants as action
 use Rattle.lot_machine.specs.declared.event.Event.TheVariants as event
 use Rattle.lot_machine.specs.declared.reply.Reply.{Reply}
 use Rattle.lot_machine.specs.declared.reply.Reply.TheVariants as reply
@@ -11,7 +11,6 @@ use Rattle.lot_machine.specs.declared.reply.Outcome.TheVariants as outcome
 use Rattle.lot_machine.specs.declared.row.ThreadRow.{ThreadRow}
 use Rattle.lot_machine.specs.Facts.{base_value, live_value}
 use Rattle.lot_machine.specs.Lends.{is_live}
-use Rattle.lot_machine.specs.Named.{killed_by}
 use Rattle.lot_machine.specs.Numbered.{numbers}
 use Rattle.lot_machine.specs.Rows.{currency_name, thread_row}
 use Rattle.lot_machine.specs.declared.record.Status.{Status}
@@ -55,8 +54,8 @@ span_ended time spans = made spans.since
       since = None;
     }
 
--- A new thread has never waited, whoever had its number before. A thread waits for a mutex from the lock that finds it
--- taken until the unlock that passes it on (6.1). A wait that a kill ends isn't counted.
+-- A thread waits for a mutex from the lock that finds it taken until the unlock that passes it on (6.1). A wait that a
+-- kill ends doesn't count. A new thread has never waited, whoever had its number before.
 abbrev pub mutex_wait : TurnAnswer → SpanChange
 mutex_wait (Answered e (reply.Thread thread)) = Anew thread
 mutex_wait (Answered e (reply.Funded ticket thread)) = Anew thread
@@ -64,7 +63,7 @@ mutex_wait (Answered (event.Trap p ran (action.Lock mutex)) (reply.Trapped threa
 mutex_wait (Answered e (reply.Trapped thread ticks (outcome.Passed to drawn) ends)) = Ends to
 mutex_wait other = Nobody
 
--- A thread waits for a reply from its call until the reply to it (4.6); nor is such a wait that a kill ends.
+-- A thread waits for a reply from its call until the reply (4.6). A wait that a kill ends doesn't count.
 abbrev pub reply_wait : TurnAnswer → SpanChange
 reply_wait (Answered e (reply.Thread thread)) = Anew thread
 reply_wait (Answered e (reply.Funded ticket thread)) = Anew thread
@@ -75,14 +74,13 @@ reply_wait (Answered e (reply.Trapped thread ticks (outcome.RepliedThenReceived 
 reply_wait (Answered e (reply.Trapped thread ticks (outcome.RepliedThenWaits to) ends)) = Ends to
 reply_wait other = Nobody
 
--- A thread lives from the turn that makes it until it exits or is killed. The state is the one after the turn, in which
--- a killed thread still has its name.
-abbrev pub life : State → TurnAnswer → SpanChange
-life s (Answered e (reply.Thread thread)) = Begins thread
-life s (Answered e (reply.Funded ticket thread)) = Begins thread
-life s (Answered e (reply.Trapped thread ticks outcome.Exited ends)) = Ends thread
-life s (Answered e reply.Done) = option_map_or Ends (killed_by s e) Nobody
-life s other = Nobody
+-- a thread lives from the turn that makes it until it exits or is killed
+abbrev pub life : TurnAnswer → SpanChange
+life (Answered e (reply.Thread thread)) = Begins thread
+life (Answered e (reply.Funded ticket thread)) = Begins thread
+life (Answered e (reply.Trapped thread ticks outcome.Exited ends)) = Ends thread
+life (Answered e (reply.Killed thread)) = Ends thread
+life other = Nobody
 
 -- the change that a turn makes to waits for mutexes
 abbrev pub mutex_change : TurnMade → SpanChange
@@ -94,7 +92,7 @@ reply_change turn = reply_wait turn.answer
 
 -- the change that a turn makes to lives
 abbrev pub life_change : TurnMade → SpanChange
-life_change turn = life turn.world.state turn.answer
+life_change turn = life turn.answer
 
 -- the thread's spans after this change at this time
 abbrev pub spans_after : ℕ → ℕ → Spans → SpanChange → Spans
@@ -116,7 +114,7 @@ makes t (Answered e (reply.Funded ticket thread)) = thread == t
 makes t other = false
 
 -- The thread's waits to run, with this status after a turn at this time. A wait begins when the thread becomes Ready,
--- and ends when it runs; one that a kill ends isn't counted (4.2).
+-- and ends when it runs. A wait that a kill ends doesn't count (4.2).
 abbrev pub queued : ℕ → Spans → Option Status → Spans
 queued time spans (Some Ready) = if is_some spans.since then spans else span_begun time spans
 queued time spans (Some (Running processor used)) = span_ended time spans
@@ -165,30 +163,30 @@ refused_traps_text n = if n == 0 then [] else codes " refused " ++ decimal n
 abbrev pub live_part : State → ℕ → ℕ → ℕ
 live_part s t value = if is_live (live_of s) t then value else 0
 
--- a tick is shared out in this many parts
+-- the parts into which a tick is divided
 abbrev pub tick_parts : ℕ
 tick_parts = 10 ^ 18
 
--- The parts of so many ticks that each base unit is due of a whole that is worth this much. They are rounded up, so
--- that what is due exactly doesn't read as less.
+-- The parts due per base unit of a total value, after this many ticks. They round up, so that an exact share doesn't
+-- read as less.
 abbrev pub rate_in : ℕ → ℕ → ℕ
 rate_in whole ticks = if whole == 0 then 0 else (ticks * tick_parts + (whole - 1)) / whole
 
--- the parts that each base unit of live value is due while the state stays so for this many ticks
+-- the parts due per base unit of live value, while the state lasts this many ticks
 abbrev pub due_rate : State → ℕ → ℕ
 due_rate s ticks = rate_in (live_value s) ticks
 
--- the parts that the thread is due, by its value, while the state stays so for this many ticks (2, 4.4)
+-- the parts due to the thread, by its value, while the state lasts this many ticks (2, 4.4)
 abbrev pub due_part : State → ℕ → ℕ → ℕ
 due_part s t ticks = live_part s t (value_of s t) * due_rate s ticks
 
--- The parts due after a turn, from those before it, when the state before it had lasted so many ticks. What the turn
--- makes anew is due nothing, whatever had its number before.
+-- The parts due after a turn, from those before it, when the state before it lasted this many ticks. A thread or
+-- currency that the turn makes is due nothing yet, whatever had its number before.
 abbrev pub due_after : (State → ℕ → ℕ) → (TurnAnswer → Bool) → State → ℕ → ℕ → TurnAnswer → ℕ
 due_after part is_new s ticks due answer = if is_new answer then 0 else due + part s ticks
 
 -- The parts due after these turns, from those before them, when this has been the state since this time. Each state
--- comes to a part for the ticks that it lasts.
+-- adds a part for the ticks that it lasts.
 abbrev pub due_from : (State → ℕ → ℕ) → (TurnAnswer → Bool) → State → ℕ → ℕ → List TimedTurn → ℕ
 due_from part is_new s time due [] = due
 due_from part is_new s time due (done ∷ others) =
@@ -199,22 +197,22 @@ due_from part is_new s time due (done ∷ others) =
 abbrev pub due_in : State → List TimedTurn → ℕ → ℕ
 due_in s turns t = due_from (λ state ticks. due_part state t ticks) (makes t) s 0 0 turns
 
--- these ticks, if the live threads are worth anything in this state, and otherwise none
+-- these ticks, if the live value is above 0 in this state, and otherwise none
 abbrev pub live_ticks : State → ℕ → ℕ
 live_ticks s ticks = if live_value s == 0 then 0 else ticks
 
--- The ticks that count after these turns, when this has been the state since this time. Of the ticks that a state lasts
--- so many count.
+-- The ticks counted over these turns, when this has been the state since this time. The function says how many of a
+-- state's ticks count.
 abbrev pub time_from : (State → ℕ → ℕ) → State → ℕ → ℕ → List TimedTurn → ℕ
 time_from counted s time all [] = all
 time_from counted s time all (done ∷ others) =
     time_from counted done.turn.world.state done.time (all + counted s (done.time - time)) others
 
--- the ticks in which live threads were worth anything in these turns, the first of which was made in this state
+-- the ticks in which the live value was above 0 in these turns, the first of which was made in this state
 abbrev pub live_time : State → List TimedTurn → ℕ
 live_time s turns = time_from live_ticks s 0 0 turns
 
--- When a thread was made, unless that was at 0 and it hasn't ended, and when it ended, if it has.
+-- The times at which a thread was made and ended. A thread made at 0 that hasn't ended has neither.
 abbrev pub life_text : Spans → List ℕ
 life_text lives = text lives.since lives.last
   where
@@ -223,9 +221,9 @@ life_text lives = text lives.since lives.last
     text None (Some life) = codes " made " ++ (decimal life.from ++ (codes " ended " ++ decimal life.to))
     text None None = []
 
--- A thread's line: its name, the draws it has won, the ticks it has used and their share of all ticks, what it was due
--- of the time in which threads were live, its share of the live value, its waits to run, for mutexes and for replies,
--- its refused traps, and when it was made and ended.
+-- A thread's line: its name, the draws won, the ticks used and their share of all ticks, its due share of the time in
+-- which live threads had value, its share of the live value, its waits to run, for mutexes and for replies, its refused
+-- traps, and when it was made and ended.
 abbrev pub timed_thread_total : State → List TimedTurn → ℕ → ℕ → ThreadRow → List ℕ
 timed_thread_total s turns all t row =
     codes "thread " ++ (decimal t ++ (codes " " ++ (row.name ++ (codes " quanta " ++ (decimal row.quanta
@@ -260,7 +258,7 @@ ticks_below s c other = 0
 abbrev pub currency_ticks_after : State → ℕ → ℕ → TurnAnswer → ℕ
 currency_ticks_after s c ticks answer = if makes_currency c answer then 0 else ticks + ticks_below s c answer
 
--- the ticks of the threads below the currency after these turns, from those before them, when this is the state
+-- the ticks of the threads below the currency after these turns, from those before them, starting in this state
 abbrev pub currency_ticks_from : State → ℕ → ℕ → List TimedTurn → ℕ
 currency_ticks_from s c ticks [] = ticks
 currency_ticks_from s c ticks (done ∷ others) =
@@ -270,8 +268,8 @@ currency_ticks_from s c ticks (done ∷ others) =
 abbrev pub currency_ticks_in : State → List TimedTurn → ℕ → ℕ
 currency_ticks_in s turns c = currency_ticks_from s c 0 turns
 
--- The parts that the currency is due, by its value, while the state stays so for this many ticks: it is due the part of
--- them that its value is of the value of all active tickets of base (2, 4.4).
+-- The parts due to the currency, by its value, while the state lasts this many ticks. Its share is its value over the
+-- total value of base's active tickets (2, 4.4).
 abbrev pub currency_part : State → ℕ → ℕ → ℕ
 currency_part s c ticks = worth_of s c * rate_in (base_value s) ticks
 
@@ -287,9 +285,9 @@ currency_due_in s turns c = due_from (λ state ticks. currency_part state c tick
 abbrev pub base_time : State → List TimedTurn → ℕ
 base_time s turns = time_from base_ticks s 0 0 turns
 
--- A currency's line: its name, the ticks of the threads below it and their share of all ticks, and what it was due of
--- the time in which tickets of base were active. A thread may stand below several currencies, so the shares may add up
--- to more than all.
+-- A currency's line: its name, the ticks of the threads below it and their share of all ticks, and its due share of the
+-- time in which base tickets were active. A thread may stand below several currencies, so the shares may add up to more
+-- than all.
 abbrev pub timed_currency_total : State → List TimedTurn → ℕ → ℕ → List ℕ → List ℕ
 timed_currency_total s turns all c name =
     codes "currency " ++ (decimal c ++ (codes " " ++ (name
@@ -332,7 +330,7 @@ refusals_in other = 0
 abbrev pub no_lives : PastLives
 no_lives = record { count = 0; total = 0; longest = 0 }
 
--- past lives with those of one number as well
+-- past lives together with those of one number
 abbrev pub with_lives : PastLives → Spans → PastLives
 with_lives lives spans = record { count = lives.count + spans.count; total = lives.total + spans.total; longest = max lives.longest spans.longest }
 
@@ -368,7 +366,7 @@ timed_report_of m end turns =
     ++ (flat_map (timed_processor_total m end (actor_turns turns)) (range_with_len 1 m.world.state.limits.processors)
     ++ timed_whole_total m turns))))
 
--- How a play that has come to this moment by so many turns ended before its time. It did only if a turn would follow.
+-- The early end of a play that has come to this moment by this many turns, or none unless another turn would follow.
 abbrev pub early_end : Program → Moment → ℕ → Option EarlyEnd
 early_end program m made = option_map (λ due. record { time = m.time; end = end_of program; turns = made }) (following program m)
 

@@ -1,5 +1,5 @@
 -- Whole systems that are small enough to compute by hand, turn by turn.
-use Rattle.std.specs.Prelude.{ℕ, List, [], ◌∷◌, codes, Option, Some, None, false}
+use Rattle.std.specs.Prelude.{ℕ, List, [], ◌∷◌, codes, Option, Some, None}
 use Rattle.lot_machine.specs.declared.command.Command.TheVariants.{MakeTicket, Fund, MakeThread, MakeFunded}
 use Rattle.lot_machine.specs.declared.reference.CurrencyRef.{CurrencyRef}
 use Rattle.lot_machine.specs.declared.reference.CurrencyRef.TheVariants as currency_ref
@@ -7,10 +7,10 @@ use Rattle.lot_machine.specs.declared.reference.TargetRef.TheVariants as target_
 use Rattle.lot_machine.specs.declared.reply.Reply.{Reply}
 use Rattle.lot_simulation.specs.declared.script.ScriptLine.{ScriptLine}
 use Rattle.lot_simulation.specs.declared.script.ScriptLine.TheVariants as line
-use Rattle.lot_simulation.specs.declared.script.ScriptTrap.TheVariants as trap
-use Rattle.lot_simulation.specs.declared.script.PortTrap.TheVariants.{Call, Receive, Serve}
+use Rattle.lot_machine.specs.declared.trap.Trap.TheVariants as trap
 use Rattle.lot_simulation.specs.World.{Program, TurnAnswer, opening_world, system_answers}
 use Rattle.lot_simulation.specs.World.TurnAnswer.{Answered, Ended}
+use Rattle.lot_simulation.specs.Words.{no_options}
 use Rattle.lot_machine.specs.Worked.{base, largest, finer}
 
 -- the replies of these turns, without their events
@@ -40,7 +40,7 @@ first_run = record {
   times = [];
   ticket_names = 0;
   names = [];
-  strict = false;
+  options = no_options;
 }
 
 -- the system `first_run` with finer values
@@ -49,22 +49,22 @@ finer_run = record first_run { limits = finer }
 
 -- the line of a script that calls at port 1
 abbrev pub call : ScriptLine
-call = line.Trap (trap.AtPort Call 1)
+call = line.Trap (trap.Call 1 tt)
 
 -- the line of a script that receives at port 1
 abbrev pub receive : ScriptLine
-receive = line.Trap (trap.AtPort Receive 1)
+receive = line.Trap (trap.Receive 1)
 
 -- the line of a script that serves at port 1
 abbrev pub serve : ScriptLine
-serve = line.Trap (trap.AtPort Serve 1)
+serve = line.Trap (trap.Serve 1 tt)
 
 -- a system with a server, and a client that calls it
 abbrev pub call_and_reply : Program
 call_and_reply = record {
   limits = record largest { ports = 1; mutexes = 0; processors = 1; scripts = 2; quantum = 10 };
   seeds = 1 ∷ [];
-  scripts = (receive ∷ line.Add 1 ∷ line.Trap trap.Reply ∷ []) ∷ (line.Set 41 ∷ call ∷ line.Compute 2 ∷ []) ∷ [];
+  scripts = (receive ∷ line.Add 1 ∷ line.Trap (trap.Reply tt) ∷ []) ∷ (line.Set 41 ∷ call ∷ line.Compute 2 ∷ []) ∷ [];
   commands = MakeFunded 5 in_base (codes "s") 1 ∷ MakeFunded 5 in_base (codes "c") 2 ∷ [];
   turns = 0;
   schedule = [];
@@ -72,7 +72,7 @@ call_and_reply = record {
   times = [];
   ticket_names = 0;
   names = [];
-  strict = false;
+  options = no_options;
 }
 
 -- a system with a server that replies and receives in one trap, and two clients
@@ -84,4 +84,4 @@ serving = record call_and_reply {
 
 -- a system with two processors and one thread
 abbrev pub two_processors : Program
-two_processors = record { limits = largest; seeds = 1 ∷ 2 ∷ []; scripts = (line.Compute 150 ∷ []) ∷ []; commands = MakeFunded 10 in_base (codes "a") 1 ∷ []; turns = 0; schedule = []; duration = None; times = []; ticket_names = 0; names = []; strict = false }
+two_processors = record { limits = largest; seeds = 1 ∷ 2 ∷ []; scripts = (line.Compute 150 ∷ []) ∷ []; commands = MakeFunded 10 in_base (codes "a") 1 ∷ []; turns = 0; schedule = []; duration = None; times = []; ticket_names = 0; names = []; options = no_options }

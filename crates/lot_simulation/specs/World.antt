@@ -2,15 +2,12 @@
 use Rattle.std.specs.Prelude.{ℕ, ◌-◌, ◌≤◌, ◌==◌, nat_le, Bool, true, false, Option, Some, None, is_some, List, [], ◌∷◌, ◌++◌, length, map, drop, replicate, count_by, All, option_and_then, slice_get, unwrap_or, if◌then◌else◌}
 use Rattle.std.specs.List.{last_or}
 use Rattle.std.specs.Option.{option_flatten}
+use Rattle.lot_simulation.specs.declared.input.Options.{Options}
 use Rattle.lot_simulation.specs.declared.script.ScriptLine.{ScriptLine}
-use Rattle.lot_simulation.specs.declared.script.ScriptTrap.{ScriptTrap}
-use Rattle.lot_simulation.specs.declared.script.ScriptTrap.TheVariants as script_trap
-use Rattle.lot_simulation.specs.declared.script.PortTrap.TheVariants.{Call, Receive, Serve}
-use Rattle.lot_simulation.specs.declared.script.MutexTrap.TheVariants.{Lock, Unlock}
-use Rattle.lot_machine.specs.declared.action.Action.{Action}
-use Rattle.lot_machine.specs.declared.action.Action.TheVariants as action
+use Rattle.lot_machine.specs.Actions.{Action, ScriptTrap, object_of, with_numbers}
+use Rattle.lot_machine.specs.declared.trap.Trap.TheVariants as action
 use Rattle.lot_machine.specs.declared.command.Command.{Command}
-use Rattle.lot_machine.specs.declared.command.Command.TheVariants.{RemoveTicket, Fund, Unfund, SetTicket, MakeThread, MakeFunded}
+use Rattle.lot_machine.specs.declared.command.Command.TheVariants.{RemoveTicket, MakeThread, MakeFunded}
 use Rattle.lot_machine.specs.declared.event.Event.{Event}
 use Rattle.lot_machine.specs.declared.event.Event.TheVariants as event
 use Rattle.lot_machine.specs.declared.reply.Reply.{Reply}
@@ -24,6 +21,7 @@ use Rattle.lot_machine.specs.Lottery.{drawn_number, seed_after_number, wide_numb
 use Rattle.lot_machine.specs.Places.{placed}
 use Rattle.lot_machine.specs.State.{State, opening, free_threads, thread_on}
 use Rattle.lot_machine.specs.Commands.{Step}
+use Rattle.lot_machine.specs.Verbs.{for_ticket}
 use Rattle.lot_machine.specs.Step.{step, used_there}
 use Rattle.lot_simulation.specs.Script.{Context, Slice, slice, start, without_sleep}
 
@@ -38,9 +36,9 @@ pub record Program : Type 0 where
   pub schedule : List ℕ
   pub duration : Option ℕ
   pub times : List ℕ  -- the commands' times, in a timed program
-  pub ticket_names : ℕ  -- how many names tickets can have, numbered from 1
+  pub ticket_names : ℕ  -- the number of names that tickets can have, numbered from 1
   pub names : List (Option ℕ)  -- the number of the name that each command has for its ticket, in a timed program
-  pub strict : Bool  -- whether a refused command or trap ends the play
+  pub options : Options  -- what the header chooses; the limits have the part of the kernel
 
 -- the kernel's state, each thread's context, each processor's generator, the remaining commands with their names for
 -- tickets, the ticket that has each name, and the actors of the turns so far
@@ -86,15 +84,7 @@ slice_on w p t = slice (context_of w t) (w.state.limits.quantum - used_there w.s
 
 -- A trap of a script as an action: calls, replies and serves carry the accumulator, and an unlock the drawn number.
 abbrev pub action_of : ScriptTrap → ℕ → ℕ → Action
-action_of script_trap.Yield accumulator drawn = action.Yield
-action_of script_trap.Reply accumulator drawn = action.Reply accumulator
-action_of (script_trap.AtPort Call port) accumulator drawn = action.Call port accumulator
-action_of (script_trap.AtPort Receive port) accumulator drawn = action.Receive port
-action_of (script_trap.AtPort Serve port) accumulator drawn = action.Serve port accumulator
-action_of (script_trap.OnMutex Lock mutex) accumulator drawn = action.Lock mutex
-action_of (script_trap.OnMutex Unlock mutex) accumulator drawn = action.Unlock mutex drawn
-action_of (script_trap.Sleep ticks) accumulator drawn = action.Sleep
-action_of script_trap.Exit accumulator drawn = action.Exit
+action_of trap accumulator drawn = with_numbers trap (object_of trap) accumulator drawn tt
 
 -- the slice as an event: an expiry, or a trap after its ticks
 abbrev pub event_of_slice : ℕ → ℕ → Slice → Event
@@ -118,7 +108,7 @@ actor_event program w actor = if nat_le actor program.limits.processors then pro
 
 -- the thread as a sleeper, if this is its trap and a sleep
 abbrev pub sleeper_by : ℕ → Option ScriptTrap → Option Sleeper
-sleeper_by t (Some (script_trap.Sleep ticks)) = Some (record { thread = t; ticks = ticks })
+sleeper_by t (Some (action.Sleep ticks)) = Some (record { thread = t; ticks = ticks })
 sleeper_by t other = None
 
 -- the thread on the processor, if its slice ends with a sleep
@@ -172,25 +162,17 @@ contexts_after_command program w c other = w.contexts
 abbrev pub ticket_named : List ℕ → ℕ → ℕ
 ticket_named tickets name = unwrap_or (at_number tickets name) 0
 
--- the command for this ticket, if it is one for a ticket
-abbrev pub for_ticket : ℕ → Command → Command
-for_ticket ticket (RemoveTicket t) = RemoveTicket ticket
-for_ticket ticket (Fund t target) = Fund ticket target
-for_ticket ticket (Unfund t) = Unfund ticket
-for_ticket ticket (SetTicket t amount) = SetTicket ticket amount
-for_ticket ticket other = other
-
 -- the command with the number of the ticket that it names, if it names one
 abbrev pub resolved : List ℕ → Option ℕ → Command → Command
 resolved tickets None c = c
 resolved tickets (Some name) c = for_ticket (ticket_named tickets name) c
 
--- the tickets with names once this one is removed
+-- the named tickets without this one
 abbrev pub without_ticket : ℕ → List ℕ → List ℕ
 without_ticket ticket tickets = map (λ t. if t == ticket then 0 else t) tickets
 
--- The tickets with names after this command, which may name one: a new ticket gets the name, and a removed one loses
--- its own, whoever gets its number then.
+-- The named tickets after this command, which may name one: a new ticket gets the name, and a removed one loses its
+-- name, whoever gets its number later.
 abbrev pub tickets_after : List ℕ → Option ℕ → Command → Reply → List ℕ
 tickets_after tickets (Some name) c (reply.Ticket ticket) = set_number tickets name ticket
 tickets_after tickets (Some name) c (reply.Funded ticket thread) = set_number tickets name ticket

@@ -3,8 +3,8 @@ ghost use Rattle.std.specs.Prelude.{◌≡◌, [], ◌∷◌, ◌++◌, codes};
 ghost use Rattle.lot_simulation.specs.Output.{output};
 ghost use Rattle.lot_simulation.specs.Samples.{text};
 
-/// Currencies inside one another, and a thread that base alone funds. The lines of `alice` and `task` both count what
-/// runs below `task`.
+/// Nested currencies, and a thread that base alone funds. The lines of `alice` and `task` both count the ticks of
+/// threads below `task`.
 #[tactic(auto, unfolding(crate::specs::OnLiterals::texts_on_literals, crate::specs::Timed::timed_room))]
 pub fn nested()
     ensures { output (text (codes "lottery 3" ∷ codes "quantum 10" ∷ codes "for 40" ∷ codes "seed 8"
@@ -29,7 +29,7 @@ pub fn nested()
         ∷ codes "total turns 22 quanta 5 ticks 40 refused 0 left 0" ∷ []) }
 {}
 
-/// A server runs for its client's currency from the call to the reply, also after its own ticket was taken away.
+/// A server runs for its client's currency from the call to the reply, even after its own ticket is gone.
 #[tactic(auto, unfolding(crate::specs::OnLiterals::texts_on_literals, crate::specs::Timed::timed_room))]
 pub fn lent()
     ensures { output (text (codes "lottery 3" ∷ codes "quantum 10" ∷ codes "for 20" ∷ codes "port p"
@@ -78,7 +78,7 @@ pub fn locked()
         ∷ codes "total turns 21 quanta 6 ticks 20 refused 0 left 0" ∷ []) }
 {}
 
-/// A currency with the number of a removed one begins anew.
+/// A currency with a reused number starts from nothing.
 #[tactic(auto, unfolding(crate::specs::OnLiterals::texts_on_literals, crate::specs::Timed::timed_room))]
 pub fn again()
     ensures { output (text (codes "lottery 3" ∷ codes "quantum 10" ∷ codes "for 25" ∷ codes "reuse"

@@ -64,7 +64,7 @@ impl Format {
         }
     }
 
-    /// Whether the processors' generators give wide numbers, as in a timed input.
+    /// Whether the processors' generators give wide numbers; only a timed input's do.
     #[inline(always)]
     pub fn draws_wide_numbers(self) -> bool
         ensures { result ≡ formats.is_timed self }
@@ -72,7 +72,7 @@ impl Format {
         self.is_timed()
     }
 
-    /// Whether a schedule may have lines of runs: not with unit 1, nor in a timed input.
+    /// Whether a schedule may have lines of runs; only `lottery 2` has them.
     pub fn has_runs(self) -> bool
         ensures { result ≡ not (formats.unit_of self == 1 || formats.is_timed self) }
     {

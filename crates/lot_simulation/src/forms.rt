@@ -1,6 +1,7 @@
 //! The forms of an input's lines: the arguments after each line's first word.
 
 use crate::input::BodyWord;
+use lot_machine::{Slot, Verb, form_of};
 
 /// The numbers from the first to the last, both included.
 #[derive(Clone, Copy, Debug)]
@@ -13,13 +14,9 @@ pub struct Range {
 #[derive(Clone, Copy, Debug)]
 pub enum Argument {
     Number(Range),
-    /// An amount. Only the kernel checks it further.
-    AnyNumber,
-    /// A ticket: its number, which only the kernel checks further, or in a timed input the name that an earlier line
-    /// gave it.
-    Ticket,
-    /// A name. Only the kernel checks it further.
-    AnyName,
+    /// An argument of a command, which only the kernel checks further: an amount, a ticket or a name. A ticket is its
+    /// number, or in a timed input the name that an earlier line gave it.
+    OfCommand(Slot),
     /// A good name, new among the lines that begin with this word.
     NewName(BodyWord),
     /// A name given by an earlier line that begins with this word.
@@ -39,11 +36,11 @@ pub enum Argument {
 pub enum Form {
     /// Each argument comes once.
     Once(&'static [(&'static str, Argument)]),
-    /// Each argument comes once; the line is a command of the console.
-    Command(&'static [(&'static str, Argument)]),
-    /// Each argument comes once; the line is a command of the console that makes a ticket. In a timed input `as` and
+    /// A command of the console with this verb: each of its arguments comes once.
+    Command(Verb),
+    /// A command of the console that makes a ticket: each argument of this verb comes once. In a timed input `as` and
     /// the ticket's name may follow, a good name and new among those of tickets.
-    Naming(&'static [(&'static str, Argument)]),
+    Naming(Verb),
     /// The arguments come once or more, as a group.
     Repeated(&'static [(&'static str, Argument)]),
     /// The arguments come once for each processor.
@@ -51,14 +48,28 @@ pub enum Form {
 }
 
 impl Form {
-    /// The arguments after the first word, each with its name, without repetitions.
-    pub fn arguments(self) -> &'static [(&'static str, Argument)] {
+    /// The number of arguments after the first word, without repetitions.
+    pub fn len(self) -> usize {
         match self {
-            Form::Once(arguments)
-            | Form::Command(arguments)
-            | Form::Naming(arguments)
-            | Form::Repeated(arguments)
-            | Form::PerProcessor(arguments) => arguments,
+            Form::Command(verb) | Form::Naming(verb) => form_of(verb).len(),
+            Form::Once(arguments) | Form::Repeated(arguments) | Form::PerProcessor(arguments) => {
+                arguments.len()
+            }
+        }
+    }
+
+    /// The argument at this index after the first word, from 0, with its name, if there are that many without
+    /// repetitions.
+    pub fn argument(self, place: usize) -> Option<(&'static str, Argument)> {
+        match self {
+            Form::Command(verb) | Form::Naming(verb) => {
+                let (name, slot) = form_of(verb).get(place)?;
+                Some((*name, Argument::OfCommand(*slot)))
+            }
+            Form::Once(arguments) | Form::Repeated(arguments) | Form::PerProcessor(arguments) => {
+                let (name, argument) = arguments.get(place)?;
+                Some((*name, *argument))
+            }
         }
     }
 }

@@ -10,8 +10,8 @@ ghost use Rattle.lot_simulation.specs.Timed.{TimedTurn, clock_of, end_of, ended_
 ghost use Rattle.lot_simulation.specs.Timed.{last_moment, timed_room, timed_schedule, timed_turns};
 ghost use Rattle.lot_simulation.specs.TimedReport.{actor_turns, clock_at, idle_until, timed_report, timed_report_of};
 
-/// The counts of each actor's turns add up to the counts over all turns of a legal history, and the numbers of turns
-/// do too.
+/// The counts of all actors' turns add up to the counts over all turns of a legal history, and so do the numbers of
+/// turns.
 pub fn actors_add_up()
     ensures turns { (program : Program) (room : ℕ) (history : List ℕ) → IsLegal program room history
         → sum_by (λ actor. length (turns_of actor (turns_made program history)))
@@ -22,8 +22,8 @@ pub fn actors_add_up()
         (range_with_len 0 (program.limits.processors + 1)) ≡ total_of count (turns_made program history) }
 {}
 
-/// Timed turns are in order: no turn is earlier than the one before it, if sizes are within their bounds and no
-/// command is earlier than the one before it.
+/// Times never fall: no turn is earlier than the one before it, if sizes are within their bounds and no command is
+/// earlier than the one before it.
 pub fn times_never_fall()
     ensures { (program : Program) → IsWithinBounds program.limits → IsNonDecreasing program.times
         → IsNonDecreasing (map (λ done. done.time) (timed_turns program)) }
@@ -54,7 +54,7 @@ pub fn clocks_add_up()
 {}
 
 /// In the report of a timed program the threads' quanta and ticks add up to its totals, if sizes are within their
-/// bounds. If numbers are given again they may be less: a thread with the number of a removed one begins anew.
+/// bounds. With `reuse` they may add up to less: a thread with a reused number starts from 0.
 pub fn timed_threads_add_up()
     ensures quanta { (program : Program) → IsWithinBounds program.limits → program.limits.reuse ≡ false
         → sum_by (λ r. r.quanta) (last_moment program).world.state.records
@@ -87,8 +87,8 @@ pub fn timed_processors_add_up()
         ≡ total_of ticks_in (actor_turns (timed_turns program)) }
 {}
 
-/// A timed program that makes fewer turns than there is room for comes to its end, unless a refusal ends it, and its
-/// report has no line of an early end.
+/// A timed program that makes fewer turns than the limit comes to its end, unless a refusal ends it, and its report has
+/// no line of an early end.
 pub fn few_turns_come_to_the_end()
     ensures { (program : Program) → is_stopped program (last_moment program) ≡ false
         → length (timed_turns program) < timed_room
@@ -97,7 +97,7 @@ pub fn few_turns_come_to_the_end()
 
 /// A refused command or trap is the last turn of a strict program.
 pub fn refusals_end_strict_programs()
-    ensures { (program : Program) → program.strict ≡ true
+    ensures { (program : Program) → program.options.strict ≡ true
         → (before : List TimedTurn) (done : TimedTurn) (others : List TimedTurn)
         → timed_turns program ≡ before ++ done ∷ others → is_refusal done.turn.answer ≡ true → others ≡ [] }
 {}

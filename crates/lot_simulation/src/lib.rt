@@ -1,10 +1,11 @@
-//! The vocabulary of a simulated system: scripts, the words of an input, and the reasons for refusing one. Its
-//! definitions build on those of the machine.
+//! The vocabulary of a simulated system: scripts, the words of an input, the reasons for refusing one, and the warnings
+//! of a run. Its definitions build on those of the machine.
 //!
-//! Its tests stand in `lot_text_tests`.
+//! Its tests stand in `lot_text_tests`, and those of warnings in `lot_system_tests`.
 #![tactic(auto)]
 
 pub mod currencies;
+mod first_few;
 mod format;
 mod forms;
 mod input;
@@ -21,17 +22,20 @@ mod style;
 pub mod texts;
 mod timed;
 pub mod timed_rows;
+mod warnings;
 mod words;
 pub mod worked;
 
+pub use first_few::FirstFew;
 pub use format::Format;
 pub use forms::{Argument, Form, Range};
-pub use input::{BodyWord, HeaderWord, InputFault, InputRefusal, ScriptWord, TicketRef};
-pub use script::{MutexTrap, PortTrap, ScriptLine, ScriptTrap};
+pub use input::{BodyWord, HeaderWord, InputFault, InputRefusal, Options, ScriptWord};
+pub use script::ScriptLine;
 pub use separators::Separators;
 pub use style::LineStyle;
 pub use timed::{Clock, Due, EarlyEnd, PastLives, Sleeper, Span, SpanChange, Spans, TICK_PARTS};
+pub use warnings::{Lack, Owner, RefusedCommand, RefusedTrap, StuckThread, Warnings};
 pub use words::{
-    AS_WORD, BODY_WORDS, COMPENSATION_WORD, FIRST_WORD, HEADER_WORDS, LENDING_WORD, RUNS_WORD,
-    SCHEDULE_WORD, SCRIPT_WORDS, WordRow,
+    AS_WORD, COMPENSATION_WORD, FIRST_WORD, HEADER_WORDS, LENDING_WORD, RUNS_WORD, SCHEDULE_WORD,
+    WordRow,
 };

@@ -14,8 +14,7 @@ pub fn names_are_numbers()
         ∷ codes "at 3" ∷ codes "settkt 2 4" ∷ codes "unfund 2" ∷ codes "rmtkt 2" ∷ [])) }
 {}
 
-/// A removed ticket loses its name, also if another one gets its number; and no ticket has a name whose command was
-/// refused.
+/// A removed ticket loses its name, even if another ticket gets its number. A refused command names no ticket.
 #[tactic(auto, unfolding(crate::specs::OnLiterals::texts_on_literals, crate::specs::Timed::timed_room))]
 pub fn names_end()
     ensures removed { output (text (codes "lottery 3" ∷ codes "for 1" ∷ codes "reuse" ∷ codes "mktkt 5 base as gift"

@@ -33,7 +33,7 @@ pub fn lines()
         ≡ refused_on_line (codes "4 51 BadLine") }
 {}
 
-/// From its first line on, a timed input may have a tab or a carriage return for a space. Other lines may not.
+/// From its first line on, a timed input may have a tab or a carriage return in place of a space. Other inputs may not.
 #[tactic(auto, unfolding(crate::specs::OnLiterals::texts_on_literals))]
 pub fn blanks()
     ensures same { program_in (text ((codes "lottery 3" ++ 13 ∷ []) ∷ (codes "for" ++ 13 ∷ codes "9" ++ 13 ∷ [])
@@ -93,7 +93,7 @@ pub fn timed_header()
         ≡ refused_on_line (codes "3 50 BadHeader") }
 {}
 
-/// What a kernel goes without: neither, one or both, in any order.
+/// The words after `without`: neither, one or both, in any order.
 #[tactic(auto, unfolding(crate::specs::OnLiterals::texts_on_literals))]
 pub fn without()
     ensures neither { is_without (text (codes "lottery 3" ∷ codes "for 9" ∷ [])) ≡ Ok (false, false) }
@@ -105,7 +105,7 @@ pub fn without()
         ∷ codes "without compensation" ∷ [])) ≡ Ok (true, true) }
 {}
 
-/// Tokens are judged from left to right.
+/// The parser reads tokens from left to right.
 #[tactic(auto, unfolding(crate::specs::OnLiterals::texts_on_literals))]
 pub fn tokens()
     ensures no_actor { output (text (second_line (codes "schedule"))) ≡ refused_on_line (codes "2 51 BadLine") }

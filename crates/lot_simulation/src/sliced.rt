@@ -1,8 +1,7 @@
 //! Worked rows for small scripts and their slices.
 ghost use Rattle.std.specs.Prelude.{◌≡◌, ◌++◌, [], ◌∷◌, replicate};
 ghost use Rattle.lot_simulation.specs.declared.script.ScriptLine.TheVariants as line;
-ghost use Rattle.lot_simulation.specs.declared.script.ScriptTrap.TheVariants as trap;
-ghost use Rattle.lot_simulation.specs.declared.script.PortTrap.TheVariants.{Call};
+ghost use Rattle.lot_machine.specs.declared.trap.Trap.TheVariants as trap;
 ghost use Rattle.lot_simulation.specs.Script.{unrolled, start, slice};
 ghost use Rattle.lot_simulation.specs.Script.Item.{Work, Set, Traps};
 
@@ -20,11 +19,11 @@ pub fn sliced_loop()
           end = record { rest = replicate 5 Work ++ Traps trap.Exit ∷ []; accumulator = 0 };
         } }
     ensures empty_loop { unrolled (line.Loop 3 ∷ line.End ∷ []) ≡ replicate 4 Work ++ Traps trap.Exit ∷ [] }
-    ensures sent { slice (start (line.Set 4294967295 ∷ line.Add 3 ∷ line.Trap (trap.AtPort Call 1)
+    ensures sent { slice (start (line.Set 4294967295 ∷ line.Add 3 ∷ line.Trap (trap.Call 1 tt)
         ∷ line.Trap trap.Yield ∷ [])) 10
         ≡ record {
           ticks = 2;
-          trap = Some (trap.AtPort Call 1);
+          trap = Some (trap.Call 1 tt);
           end = record { rest = Traps trap.Yield ∷ Traps trap.Exit ∷ []; accumulator = 2 };
         } }
     ensures at_trap { slice (start (line.Set 7 ∷ line.Trap trap.Yield ∷ [])) 1

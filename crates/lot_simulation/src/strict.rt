@@ -22,7 +22,7 @@ pub fn refusals()
         ∷ codes "total turns 4 quanta 1 ticks 2 refused 0 left 0" ∷ codes "ended at 2 of 12: 4 turns made" ∷ []) }
 {}
 
-/// Without a refused command or trap the output is the same as without `strict`, also if the wake of a killed sleeper
+/// Without a refused command or trap the output is the same as without `strict`, even if the wake of a killed sleeper
 /// is refused.
 #[tactic(auto, unfolding(crate::specs::OnLiterals::texts_on_literals, crate::specs::Timed::timed_room))]
 pub fn no_refusal()
@@ -34,7 +34,7 @@ pub fn no_refusal()
         ∷ [])) }
 {}
 
-/// `strict` where it can't stand.
+/// `strict` in the wrong place.
 #[tactic(auto, unfolding(crate::specs::OnLiterals::texts_on_literals, crate::specs::Timed::timed_room))]
 pub fn refused_headers()
     ensures in_first { output (text (codes "lottery 1" ∷ codes "strict" ∷ []))

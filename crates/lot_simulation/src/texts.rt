@@ -1,6 +1,6 @@
 //! Worked rows for the lines of replies, refusals and listings.
 ghost use Rattle.std.specs.Prelude.{◌≡◌, [], ◌∷◌, codes, true, false, Some, None};
-ghost use Rattle.lot_machine.specs.declared.action.Action.TheVariants as action;
+ghost use Rattle.lot_machine.specs.declared.trap.Trap.TheVariants as action;
 ghost use Rattle.lot_machine.specs.declared.record.Status.TheVariants as status;
 ghost use Rattle.lot_machine.specs.declared.refusal.Refusal.TheVariants as refusal;
 ghost use Rattle.lot_machine.specs.declared.refusal.TrapRefusal.TheVariants as trap_refusal;

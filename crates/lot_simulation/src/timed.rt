@@ -1,16 +1,16 @@
 //! Clocks, due turns, spans of time and early ends of a timed input.
 
-/// A tick is shared out in this many parts where a report tells what threads were due.
+/// The parts into which reports divide a tick, to add up the dues of threads.
 pub const TICK_PARTS: u128 = 1000000000000000000;
 
 /// A processor's clock. Times are in ticks.
 #[derive(Clone, Copy, Debug, PartialEq, Eq)]
 pub struct Clock {
-    /// The time of its last turn.
+    /// The time of the last turn.
     pub time: u32,
-    /// Whether it has waited since then, after an idle draw.
+    /// Whether the processor waits, after an idle draw.
     pub waits: bool,
-    /// The total of its earlier waits.
+    /// The total of the past waits.
     pub idle: u64,
 }
 
@@ -22,23 +22,23 @@ pub struct Due {
     pub actor: u32,
 }
 
-/// A thread that goes to sleep.
+/// A thread that goes to sleep, and for how long.
 #[derive(Clone, Copy, Debug, PartialEq, Eq)]
 pub struct Sleeper {
-    /// Its number.
+    /// The thread's number.
     pub thread: u32,
-    /// For how many ticks it sleeps.
+    /// The ticks that it sleeps.
     pub ticks: u32,
 }
 
-/// The end of a play before its time. Times are in ticks.
+/// A play's end before its time. Times are in ticks.
 #[derive(Clone, Copy, Debug, PartialEq, Eq)]
 pub struct EarlyEnd {
-    /// The time of its last turn.
+    /// The time of the play's last turn.
     pub time: u32,
     /// The time at which the input ends.
     pub end: u32,
-    /// The number of its turns.
+    /// The number of turns made.
     pub turns: u64,
 }
 
@@ -55,11 +55,11 @@ pub struct Span {
 pub struct Spans {
     /// The number of past spans.
     pub count: u32,
-    /// Their total.
+    /// The total of past spans.
     pub total: u64,
-    /// The longest of them.
+    /// The longest past span.
     pub longest: u32,
-    /// The last of them, if there is one.
+    /// The last past span, if there is one.
     pub last: Option<Span>,
     /// The start of the current span, if there is one.
     pub since: Option<u32>,
@@ -72,7 +72,7 @@ pub struct PastLives {
     pub count: u64,
     /// The total of their lives.
     pub total: u128,
-    /// The longest of them.
+    /// The longest life.
     pub longest: u32,
 }
 
@@ -80,7 +80,7 @@ pub struct PastLives {
 #[derive(Clone, Copy, Debug, PartialEq, Eq)]
 pub enum SpanChange {
     Nobody,
-    /// A thread with this number was made: it has had no span.
+    /// A new thread has this number, and has had no span.
     Anew(u32),
     /// A span of this thread begins.
     Begins(u32),

@@ -6,7 +6,7 @@ ghost use Rattle.lot_simulation.specs.Samples.{few_turns, text, refused_on_line}
 ghost use Rattle.lot_simulation.specs.Seeded.{seeds_from};
 ghost use Rattle.lot_machine.specs.Lottery.{mixed_seed};
 
-/// Nothing to do: the processor's draw is idle, and it waits to the end.
+/// Nothing to do: the processor's draw is idle, and it waits until the end.
 #[tactic(auto, unfolding(crate::specs::OnLiterals::texts_on_literals, crate::specs::Timed::timed_room))]
 pub fn nothing_to_do()
     ensures { output (text (codes "lottery 3" ∷ codes "for 10" ∷ []))
@@ -14,7 +14,7 @@ pub fn nothing_to_do()
         ∷ codes "total turns 1 quanta 0 ticks 0 refused 0 left 0" ∷ []) }
 {}
 
-/// Two threads that compute, with shares of 2 to 1. A turn at the end is still made.
+/// Two threads that compute, with shares of 2 to 1. The play still makes a turn at its end.
 #[tactic(auto, unfolding(crate::specs::OnLiterals::texts_on_literals, crate::specs::Timed::timed_room))]
 pub fn two_spinners()
     ensures { output (text (codes "lottery 3" ∷ codes "for 300" ∷ codes "script spin" ∷ codes "compute 1000"
@@ -29,7 +29,7 @@ pub fn two_spinners()
         ∷ codes "total turns 9 quanta 4 ticks 300 refused 0 left 0" ∷ []) }
 {}
 
-/// A command in the middle of a quantum, which the next draw sees, and one after the end, which is never made.
+/// A command in the middle of a quantum, which the next draw sees. The play never makes a command after its end.
 #[tactic(auto, unfolding(crate::specs::OnLiterals::texts_on_literals, crate::specs::Timed::timed_room))]
 pub fn commands_in_time()
     ensures { output (text (codes "lottery 3" ∷ codes "for 250" ∷ codes "script spin" ∷ codes "compute 1000"
@@ -58,7 +58,7 @@ pub fn console_first()
         ∷ codes "total turns 5 quanta 2 ticks 100 refused 0 left 0" ∷ []) }
 {}
 
-/// Two processors and one thread. The processor whose draw is idle waits until a turn that isn't an idle draw.
+/// Two processors and one thread. After an idle draw a processor waits until another turn that is no idle draw.
 #[tactic(auto, unfolding(crate::specs::OnLiterals::texts_on_literals, crate::specs::Timed::timed_room))]
 pub fn one_time()
     ensures { output (text (codes "lottery 3" ∷ codes "processors 2" ∷ codes "quantum 10" ∷ codes "for 25"
@@ -168,8 +168,8 @@ pub fn behind_the_point()
         ∷ codes "total turns 9 quanta 1 ticks 0 refused 0 left 0" ∷ []) }
 {}
 
-/// Changed amounts. Inside its currency one thread gains what another loses, and the thread outside keeps its value;
-/// a currency with less backing is worth less.
+/// Changed amounts. Inside its currency one thread gains what another loses, and the thread outside keeps its value. A
+/// currency with less backing is worth less.
 #[tactic(auto, unfolding(crate::specs::OnLiterals::texts_on_literals, crate::specs::Timed::timed_room))]
 pub fn amounts_in_time()
     ensures { output (text (codes "lottery 3" ∷ codes "for 300" ∷ codes "seed 14" ∷ codes "script s"
@@ -194,8 +194,8 @@ pub fn amounts_in_time()
         ∷ codes "total turns 18 quanta 4 ticks 300 refused 2 left 0" ∷ []) }
 {}
 
-/// A thread removed after it has ended and no ticket funds it: it has no line in listings or in the report
-/// afterwards. Its name is used again, its number isn't.
+/// A removed thread, dead and with no ticket, has no line in later listings or in the report. Another thread gets its
+/// name, and none its number.
 #[tactic(auto, unfolding(crate::specs::OnLiterals::texts_on_literals, crate::specs::Timed::timed_room))]
 pub fn threads_removed()
     ensures { output (text (codes "lottery 3" ∷ codes "quantum 10" ∷ codes "for 30" ∷ codes "script short"
@@ -221,8 +221,8 @@ pub fn threads_removed()
         ∷ codes "total turns 23 quanta 5 ticks 30 refused 6 left 0 ended 2 mean 8.5 longest 12" ∷ []) }
 {}
 
-/// Threads that can't be removed, though they have ended and nothing funds them: thread 1 owns a mutex, and thread 3
-/// has a client. The client waits for good, and hasn't ended.
+/// Dead threads without tickets that can't be removed: thread 1 owns a mutex, and thread 3 has a client. The client
+/// waits for good, so it hasn't ended.
 #[tactic(auto, unfolding(crate::specs::OnLiterals::texts_on_literals, crate::specs::Timed::timed_room))]
 pub fn threads_kept()
     ensures { output (text (codes "lottery 3" ∷ codes "quantum 10" ∷ codes "for 8" ∷ codes "port p" ∷ codes "mutex m"
@@ -245,7 +245,7 @@ pub fn threads_kept()
         ∷ codes "total turns 20 quanta 3 ticks 5 refused 3 left 0 ended 2 mean 2 longest 2" ∷ []) }
 {}
 
-/// Refused commands are counted.
+/// The report counts refused commands.
 #[tactic(auto, unfolding(crate::specs::OnLiterals::texts_on_literals, crate::specs::Timed::timed_room))]
 pub fn refused_commands()
     ensures { output (text (codes "lottery 3" ∷ codes "for 1" ∷ codes "mktkt 0 base" ∷ codes "mkthr a none"
@@ -255,7 +255,7 @@ pub fn refused_commands()
         ∷ codes "total turns 4 quanta 0 ticks 0 refused 3 left 0" ∷ []) }
 {}
 
-/// A thread that waits for good: no turn is due any more, and the processor waits to the end.
+/// A thread that waits for good: no turn is due, and the processor waits until the end.
 #[tactic(auto, unfolding(crate::specs::OnLiterals::texts_on_literals, crate::specs::Timed::timed_room))]
 pub fn waits_for_good()
     ensures { output (text (codes "lottery 3" ∷ codes "quantum 10" ∷ codes "for 50" ∷ codes "port p"
@@ -458,8 +458,8 @@ pub fn killed_in_a_slice()
         ∷ codes "total turns 12 quanta 4 ticks 20 refused 2 left 0 ended 1 mean 4 longest 4" ∷ []) }
 {}
 
-/// A kill on one of two processors: the other's slice goes on, and its next turn comes when it would have come. Where
-/// nobody is ready after a kill, the processor waits.
+/// A kill on one of two processors. The other's slice goes on, and its next turn comes at its time. With nobody ready
+/// after a kill, the processor waits.
 #[tactic(auto, unfolding(crate::specs::OnLiterals::texts_on_literals, crate::specs::Timed::timed_room))]
 pub fn killed_beside_another()
     ensures { output (text (codes "lottery 3" ∷ codes "processors 2" ∷ codes "quantum 10" ∷ codes "for 25"
@@ -499,8 +499,8 @@ pub fn killed_sleeper()
         ∷ codes "total turns 12 quanta 3 ticks 14 refused 1 left 0 ended 2 mean 8 longest 13" ∷ []) }
 {}
 
-/// A killed server's client is ready at once, with the compensation that it has, and gets no number. Its wait isn't
-/// counted as one for a reply.
+/// A killed server's client is Ready at once, keeps its compensation, and gets no number. The report doesn't count its
+/// wait as one for a reply.
 #[tactic(auto, unfolding(crate::specs::OnLiterals::texts_on_literals, crate::specs::Timed::timed_room))]
 pub fn killed_server()
     ensures { output (text (codes "lottery 3" ∷ codes "quantum 10" ∷ codes "for 30" ∷ codes "port p"
@@ -520,7 +520,8 @@ pub fn killed_server()
         ∷ codes "total turns 11 quanta 4 ticks 4 refused 0 left 0 ended 2 mean 4.5 longest 5" ∷ []) }
 {}
 
-/// A killed owner's mutex passes at once to the thread that waits for it. Its wait isn't counted as one for a mutex.
+/// A killed owner's mutex passes at once to the thread that waits for it. The report doesn't count its wait as one for
+/// a mutex.
 #[tactic(auto, unfolding(crate::specs::OnLiterals::texts_on_literals, crate::specs::Timed::timed_room))]
 pub fn killed_owner()
     ensures { output (text (codes "lottery 3" ∷ codes "processors 2" ∷ codes "quantum 10" ∷ codes "for 20"
@@ -542,7 +543,7 @@ pub fn killed_owner()
         ∷ codes "total turns 18 quanta 4 ticks 16 refused 0 left 0 ended 2 mean 12 longest 19" ∷ []) }
 {}
 
-/// With `reuse` the limits count what is there at once: a thread and a ticket get the numbers of those removed.
+/// With `reuse` the limits count what exists at once: a thread and a ticket get the numbers of removed ones.
 #[tactic(auto, unfolding(crate::specs::OnLiterals::texts_on_literals, crate::specs::Timed::timed_room))]
 pub fn numbers_again()
     ensures { output (text (codes "lottery 3" ∷ codes "quantum 10" ∷ codes "for 30" ∷ codes "limits 2 1 2"
@@ -565,8 +566,8 @@ pub fn numbers_again()
         ∷ codes "total turns 17 quanta 5 ticks 30 refused 1 left 0 ended 2 mean 13.5 longest 22" ∷ []) }
 {}
 
-/// A thread with a number given again starts its script from its first line, and has neither the draws, the ticks nor
-/// the waits of the one before it.
+/// A thread with a reused number starts its script at the first line, with none of the draws, ticks or waits of the
+/// thread before it.
 #[tactic(auto, unfolding(crate::specs::OnLiterals::texts_on_literals, crate::specs::Timed::timed_room))]
 pub fn begins_anew()
     ensures { output (text (codes "lottery 3" ∷ codes "quantum 10" ∷ codes "for 40" ∷ codes "limits 2 1 2"
@@ -592,8 +593,8 @@ pub fn begins_anew()
         ∷ codes "total turns 25 quanta 8 ticks 31 refused 0 left 0 ended 2 mean 7 longest 7" ∷ []) }
 {}
 
-/// Refused traps are counted in their thread's line, and refused commands in the last line. Thread 1 locks a mutex that
-/// it owns, and unlocks one that it doesn't own.
+/// A thread's line counts its refused traps, and the last line refused commands. Thread 1 locks a mutex that it owns,
+/// and unlocks one that it doesn't own.
 #[tactic(auto, unfolding(crate::specs::OnLiterals::texts_on_literals, crate::specs::Timed::timed_room))]
 pub fn refused_traps()
     ensures { output (text (codes "lottery 3" ∷ codes "quantum 10" ∷ codes "for 12" ∷ codes "mutex m"
@@ -615,7 +616,7 @@ pub fn refused_traps()
         ∷ codes "total turns 15 quanta 2 ticks 8 refused 1 left 0 ended 2 mean 4 longest 5" ∷ []) }
 {}
 
-/// A thread with a number given again has none of the refused traps of the one before it.
+/// A thread with a reused number has none of the refused traps of the thread before it.
 #[tactic(auto, unfolding(crate::specs::OnLiterals::texts_on_literals, crate::specs::Timed::timed_room))]
 pub fn refused_traps_anew()
     ensures { output (text (codes "lottery 3" ∷ codes "quantum 10" ∷ codes "for 10" ∷ codes "limits 1 1 1"
@@ -632,8 +633,8 @@ pub fn refused_traps_anew()
         ∷ codes "total turns 13 quanta 2 ticks 4 refused 0 left 0 ended 2 mean 2 longest 2" ∷ []) }
 {}
 
-/// Without room for another turn the play ends before its time, and the report's last line says so. The draw at tick
-/// 100 isn't made.
+/// At the limit on turns the play ends before its time, and the report's last line says so. It doesn't make the draw at
+/// tick 100.
 #[tactic(auto, unfolding(crate::specs::OnLiterals::texts_on_literals))]
 pub fn ends_early()
     ensures cut { few_turns 4 (text (codes "lottery 3" ∷ codes "for 300" ∷ codes "script spin"
@@ -657,7 +658,7 @@ pub fn ends_early()
         ∷ codes "total turns 1 quanta 0 ticks 0 refused 0 left 0" ∷ []) }
 {}
 
-/// The seeds computed from one number: the number, and for each further processor the next value of the generator.
+/// The seeds computed from one number: that number, and for each further processor the next value of the generator.
 pub fn given_seeds()
     ensures one { seeds_from 1 5 ≡ 5 ∷ [] }
     ensures three { seeds_from 3 5 ≡ 5 ∷ 241355 ∷ 913028970 ∷ [] }

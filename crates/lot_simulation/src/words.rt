@@ -1,5 +1,6 @@
 //! The words of an input, each with its spelling and its arguments. This table is the only source: the parser looks
-//! up tokens and ranges here, and messages about refused lines take the names of words and arguments from here.
+//! up tokens and ranges here, and messages about refused lines take the names of words and arguments from here. The
+//! arguments of a command are those of its verb.
 //! `docs/check` compares this table with `docs/FORMATS.md`.
 ghost use Rattle.std.specs.Prelude.{◌≡◌, map, if◌then◌else◌};
 ghost use Rattle.lot_simulation.specs.Formats.{is_timed};
@@ -7,14 +8,12 @@ ghost use Rattle.lot_simulation.specs.Words.{word_in, header_words, timed_header
 ghost use Rattle.lot_simulation.specs.Words.{header_place, script_words, timed_script_words};
 
 use crate::format::Format;
-use crate::forms::Argument::{
-    Actor, AnyName, AnyNumber, KnownName, Mechanism, NewName, Number, Ticket, Time, Version,
-};
+use crate::forms::Argument::{Actor, KnownName, Mechanism, NewName, Number, Time, Version};
 use crate::forms::Form;
 use crate::forms::Form::{Command, Naming, Once, PerProcessor, Repeated};
 use crate::input::{BodyWord, HeaderWord, ScriptWord};
 use crate::ranges;
-use crate::script::{MutexTrap, PortTrap};
+use lot_machine::{Kind, Trap, Verb};
 
 /// A word, its spelling, and the form of a line that it begins.
 pub type WordRow<W> = (&'static [u8], W, Form);
@@ -93,15 +92,15 @@ pub const BODY_WORDS: [WordRow<BodyWord>; 20] = [
     (b"at", BodyWord::At, Once(&[("TICK", Time(ranges::TICK))])),
     (
         b"settkt",
-        BodyWord::SetTicket,
-        Command(&[("TICKET", Ticket), ("AMOUNT", AnyNumber)]),
+        BodyWord::Command(Verb::SetTicket),
+        Command(Verb::SetTicket),
     ),
     (
         b"rmthr",
-        BodyWord::RemoveThread,
-        Command(&[("THREAD", AnyName)]),
+        BodyWord::Command(Verb::RemoveThread),
+        Command(Verb::RemoveThread),
     ),
-    (b"kill", BodyWord::Kill, Command(&[("THREAD", AnyName)])),
+    (b"kill", BodyWord::Command(Verb::Kill), Command(Verb::Kill)),
     (
         b"port",
         BodyWord::Port,
@@ -119,48 +118,55 @@ pub const BODY_WORDS: [WordRow<BodyWord>; 20] = [
     ),
     (
         b"mktkt",
-        BodyWord::MakeTicket,
-        Naming(&[("AMOUNT", AnyNumber), ("CURRENCY", AnyName)]),
+        BodyWord::Command(Verb::MakeTicket),
+        Naming(Verb::MakeTicket),
     ),
     (
         b"rmtkt",
-        BodyWord::RemoveTicket,
-        Command(&[("TICKET", Ticket)]),
+        BodyWord::Command(Verb::RemoveTicket),
+        Command(Verb::RemoveTicket),
     ),
     (
         b"mkcur",
-        BodyWord::MakeCurrency,
-        Command(&[("NAME", AnyName)]),
+        BodyWord::Command(Verb::MakeCurrency),
+        Command(Verb::MakeCurrency),
     ),
     (
         b"rmcur",
-        BodyWord::RemoveCurrency,
-        Command(&[("CURRENCY", AnyName)]),
+        BodyWord::Command(Verb::RemoveCurrency),
+        Command(Verb::RemoveCurrency),
     ),
+    (b"fund", BodyWord::Command(Verb::Fund), Command(Verb::Fund)),
     (
-        b"fund",
-        BodyWord::Fund,
-        Command(&[("TICKET", Ticket), ("TARGET", AnyName)]),
+        b"unfund",
+        BodyWord::Command(Verb::Unfund),
+        Command(Verb::Unfund),
     ),
-    (b"unfund", BodyWord::Unfund, Command(&[("TICKET", Ticket)])),
     (
         b"mkthr",
-        BodyWord::MakeThread,
-        Command(&[("NAME", AnyName), ("SCRIPT", AnyName)]),
+        BodyWord::Command(Verb::MakeThread),
+        Command(Verb::MakeThread),
     ),
     (
         b"fundx",
-        BodyWord::MakeFunded,
-        Naming(&[
-            ("AMOUNT", AnyNumber),
-            ("CURRENCY", AnyName),
-            ("NAME", AnyName),
-            ("SCRIPT", AnyName),
-        ]),
+        BodyWord::Command(Verb::MakeFunded),
+        Naming(Verb::MakeFunded),
     ),
-    (b"lstkt", BodyWord::ListTickets, Command(&[])),
-    (b"lscur", BodyWord::ListCurrencies, Command(&[])),
-    (b"lsthr", BodyWord::ListThreads, Command(&[])),
+    (
+        b"lstkt",
+        BodyWord::Command(Verb::List(Kind::Tickets)),
+        Command(Verb::List(Kind::Tickets)),
+    ),
+    (
+        b"lscur",
+        BodyWord::Command(Verb::List(Kind::Currencies)),
+        Command(Verb::List(Kind::Currencies)),
+    ),
+    (
+        b"lsthr",
+        BodyWord::Command(Verb::List(Kind::Threads)),
+        Command(Verb::List(Kind::Threads)),
+    ),
     (
         SCHEDULE_WORD,
         BodyWord::Schedule,
@@ -177,12 +183,12 @@ pub const BODY_WORDS: [WordRow<BodyWord>; 20] = [
 pub const SCRIPT_WORDS: [WordRow<ScriptWord>; 14] = [
     (
         b"sleep",
-        ScriptWord::Sleep,
+        ScriptWord::Trap(Trap::Sleep(())),
         Once(&[("TICKS", Number(ranges::SLEEP))]),
     ),
     (
         b"serve",
-        ScriptWord::AtPort(PortTrap::Serve),
+        ScriptWord::Trap(Trap::Serve((), ())),
         Once(&[("PORT", KnownName(BodyWord::Port))]),
     ),
     (
@@ -206,26 +212,26 @@ pub const SCRIPT_WORDS: [WordRow<ScriptWord>; 14] = [
         Once(&[("TIMES", Number(ranges::TIMES))]),
     ),
     (b"end", ScriptWord::End, Once(&[])),
-    (b"yield", ScriptWord::Yield, Once(&[])),
-    (b"reply", ScriptWord::Reply, Once(&[])),
+    (b"yield", ScriptWord::Trap(Trap::Yield), Once(&[])),
+    (b"reply", ScriptWord::Trap(Trap::Reply(())), Once(&[])),
     (
         b"call",
-        ScriptWord::AtPort(PortTrap::Call),
+        ScriptWord::Trap(Trap::Call((), ())),
         Once(&[("PORT", KnownName(BodyWord::Port))]),
     ),
     (
         b"receive",
-        ScriptWord::AtPort(PortTrap::Receive),
+        ScriptWord::Trap(Trap::Receive(())),
         Once(&[("PORT", KnownName(BodyWord::Port))]),
     ),
     (
         b"lock",
-        ScriptWord::OnMutex(MutexTrap::Lock),
+        ScriptWord::Trap(Trap::Lock(())),
         Once(&[("MUTEX", KnownName(BodyWord::Mutex))]),
     ),
     (
         b"unlock",
-        ScriptWord::OnMutex(MutexTrap::Unlock),
+        ScriptWord::Trap(Trap::Unlock((), ())),
         Once(&[("MUTEX", KnownName(BodyWord::Mutex))]),
     ),
     (b"endscript", ScriptWord::EndScript, Once(&[])),
@@ -239,6 +245,13 @@ static BODY_TABLE: [WordRow<BodyWord>; 20] = BODY_WORDS;
 static SCRIPT_TABLE: [WordRow<ScriptWord>; 14] = SCRIPT_WORDS;
 
 impl HeaderWord {
+    /// The rows of the words of all formats.
+    pub fn table() -> &'static [WordRow<HeaderWord>]
+        ensures { map (λ row. (row.0.now, row.1)) result.now ≡ timed_header_words }
+    {
+        &HEADER_TABLE
+    }
+
     /// The word of the header with this spelling in an input of this format, if there is one.
     pub fn of_token(format: Format, token: &[u8]) -> Option<HeaderWord>
         ensures { result ≡ word_in (if is_timed format then timed_header_words else header_words) token.now }
@@ -259,6 +272,13 @@ impl HeaderWord {
 }
 
 impl BodyWord {
+    /// The rows of the words of all formats.
+    pub fn table() -> &'static [WordRow<BodyWord>]
+        ensures { map (λ row. (row.0.now, row.1)) result.now ≡ timed_body_words }
+    {
+        &BODY_TABLE
+    }
+
     /// The word of the body with this spelling in an input of this format, if there is one.
     pub fn of_token(format: Format, token: &[u8]) -> Option<BodyWord>
         ensures { result ≡ word_in (if is_timed format then timed_body_words else body_words) token.now }
@@ -272,6 +292,13 @@ impl BodyWord {
 }
 
 impl ScriptWord {
+    /// The rows of the words of all formats.
+    pub fn table() -> &'static [WordRow<ScriptWord>]
+        ensures { map (λ row. (row.0.now, row.1)) result.now ≡ timed_script_words }
+    {
+        &SCRIPT_TABLE
+    }
+
     /// The word of a script with this spelling in an input of this format, if there is one.
     pub fn of_token(format: Format, token: &[u8]) -> Option<ScriptWord>
         ensures { result ≡ word_in (if is_timed format then timed_script_words else script_words) token.now }

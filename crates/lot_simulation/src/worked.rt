@@ -10,7 +10,7 @@ ghost use Rattle.lot_machine.specs.declared.event.Event.TheVariants as event;
 ghost use Rattle.lot_machine.specs.declared.reply.Reply.TheVariants as reply;
 ghost use Rattle.lot_machine.specs.declared.reply.Outcome.TheVariants as outcome;
 ghost use Rattle.lot_simulation.specs.declared.script.ScriptLine.TheVariants as line;
-ghost use Rattle.lot_simulation.specs.declared.script.ScriptTrap.TheVariants as script_trap;
+ghost use Rattle.lot_machine.specs.declared.trap.Trap.TheVariants as script_trap;
 
 /// Whole systems, turn by turn.
 pub fn systems()
@@ -43,9 +43,9 @@ pub fn systems()
         ≡ Some (reply.Funded 1 1) ∷ Some (reply.Winner 1 4 10 None) ∷ Some reply.Idle ∷ Some (reply.Expired 1 100)
         ∷ Some (reply.Winner 1 3 10 None) ∷ None ∷ [] }
     ensures loops { unrolled (line.Loop 2 ∷ line.Set 7 ∷ line.Loop 1 ∷ line.Trap script_trap.Yield ∷ line.End
-        ∷ line.End ∷ line.Trap script_trap.Reply ∷ [])
+        ∷ line.End ∷ line.Trap (script_trap.Reply tt) ∷ [])
         ≡ Work ∷ Set 7 ∷ Work ∷ Traps script_trap.Yield ∷ Work ∷ Work ∷ Set 7 ∷ Work ∷ Traps script_trap.Yield ∷ Work
-        ∷ Work ∷ Traps script_trap.Reply ∷ Traps script_trap.Exit ∷ [] }
+        ∷ Work ∷ Traps (script_trap.Reply tt) ∷ Traps script_trap.Exit ∷ [] }
 {}
 
 /// The answer to the last turn of a legal history, with its event, or nothing if there was no turn.

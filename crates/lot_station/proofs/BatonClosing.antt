@@ -1,4 +1,4 @@
--- Seats in a list, taken in one after another.
+-- Seats in a list, taken in one by one.
 use Rattle.lot_station.proofs.Common.{All, Baton, Dealt, HasEachSeat, IfSome, IsSeatOf, List, None, Option, Seat, Seen, SeesAll, Shows, Some, TableId, TurnFault, View, ap, append-nil, append_assoc, arith, claim, claim_of, drop, false, get_or, get_or_from_slice_get, inl, inr, length, map, refl, resting, seat, slice_get, slice_get-get_or, slice_get_within, subst, suc, sym, together, zero, ℕ, [], ⊎_elim, ◌++◌, ◌+◌, ◌<◌, ◌∙◌, ◌∷◌, ◌≡◌, ◌⊎◌}
 
 pub all_at : (P : Seat → Type 0) (l : List Seat) → All P l → (k : ℕ) (s : Seat) → slice_get l k ≡ Some s → P s

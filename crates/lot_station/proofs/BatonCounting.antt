@@ -1,4 +1,4 @@
--- What is counted of turns is what is added up over them.
+-- The counts of turns are sums over them.
 use Rattle.lot_station.proofs.Common.{ActorTurn, AddUp, All, Bool, CountsAddUp, List, Program, Reply, Seat, Seen, Shows, Some, World, ap, arith, beside, cond, count_in, false, idles_in, if◌then◌else◌, length, opening_world, quanta_in, refl, share, slice_get, suc, sum_by, sum_by-cons, summed, summed_by, sym, system_answers, system_turn, ticks_in, total_of, true, turns_made, turns_of, ℕ, [], ◌+◌, ◌==◌, ◌∙◌, ◌∷◌, ◌≡◌}
 use Rattle.lot_station.proofs.BatonClosing.{all_at}
 

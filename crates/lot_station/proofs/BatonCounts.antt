@@ -1,4 +1,4 @@
--- What is counted of an actor's turns while a history grows.
+-- The counts of an actor's turns while a history grows.
 use Rattle.lot_station.proofs.Common.{ActorTurn, Answer, Answers, Bool, Counts, Extends, List, Program, Seen, Some, World, after_turn, ap, arith, beside, cond, counted, counted-own_more, counted_with, counts_in, false, if◌then◌else◌, inl, inr, length, opening_world, refl, slice_get, suc, sym, system_answers, system_turn, true, turns_by, turns_made, turns_of, zero, ℕ, [], ⊎_elim, ◌++◌, ◌+◌, ◌<◌, ◌==◌, ◌∙◌, ◌∷◌, ◌≡◌, ◌⊎◌}
 use Rattle.lot_station.proofs.BatonShares.{turns_by-append, turns_by-cons}
 

@@ -1,4 +1,4 @@
--- What a seat may say after it had the system in its hands.
+-- The knowledge of a seat after it held the system.
 use Rattle.lot_station.proofs.Common.{Answer, Answers, Claim, Counts, Err, Extends, Faults, Goes, IfErr, IfOk, IsLegalIn, List, Looks, Next, Ok, Option, Parts, Result, Seat, Seen, Sees, SeesAll, Setting, TurnFault, Turns, View, after_turn, ap, arith, claim, counted_with, counts_in, false, gave, holding, inl, inr, note_of, refl, resting, seen_in, subst, sym, together, took, turns_by, ℕ, [], ◌+◌, ◌∙◌, ◌∷◌, ◌≡◌, ◌≤◌}
 use Rattle.lot_station.proofs.BatonCounts.{counts-still, counts-more}
 use Rattle.lot_station.proofs.BatonShares.{turns_by-append, turns_by-own}

@@ -1,4 +1,4 @@
--- How often an actor stands in a history.
+-- The number of an actor's turns in a history.
 use Rattle.lot_station.proofs.Common.{ActorTurn, List, Program, Seen, World, ap, beside, cond, count_by, length, length-filter, opening_world, refl, sum_by-cons, sym, system_answers, system_turn, times_in, turns_in, turns_of, ℕ, [], ◌+◌, ◌==◌, ◌∙◌, ◌∷◌, ◌≡◌}
 
 -- an actor has as many turns as it stands among the actors

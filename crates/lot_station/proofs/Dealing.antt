@@ -1,4 +1,4 @@
--- What is left of a share when some seats are dealt.
+-- The rest of a share after some seats are dealt.
 use Rattle.lot_station.proofs.Common.{All, Holder, IsEnough, IsLegal, List, None, Reply, Seen, Some, ap, arith, counts-add_up, dealt, inl, inr, length, lengths-add_up, quanta_in, range_with_len, refl, slice_get, subst, suc, sum-same, sum_by, sum_by-cons, sym, ticks_in, times_in, total_of, turns_in, turns_made-actors, turns_made-length, turns_of, zero, ℕ, [], ⊎_elim, ◌++◌, ◌+◌, ◌<◌, ◌∙◌, ◌∷◌, ◌≡◌, ◌⊎◌}
 use Rattle.lot_station.proofs.Counting.{length-turns_of}
 

@@ -1,4 +1,4 @@
--- What an error leaves to prove.
+-- The remaining goals of an error.
 use Rattle.lot_station.proofs.Common.{Err, IfOk, IsErr, Ok, Result}
 
 -- nothing, of what is said of a success

@@ -1,4 +1,4 @@
--- What a loop over a slice has found of the items that it has passed.
+-- The result of a loop over a slice for the items passed.
 use Rattle.lot_station.proofs.Common.{List, Some, below_more, get_or, get_or_from_slice_get, slice_get, subst, ℕ, ◌+◌, ◌<◌, ◌∙◌, ◌≡◌}
 
 pub below_next : {A : Type 0} (l : List A) (P : ℕ → A → Type 0) (n : ℕ) (x : A) → ((j : ℕ) (s : A) → j < n → slice_get l j ≡ Some s → P j s) → x ≡ get_or l n x → P n x → (j : ℕ) (s : A) → j < n + 1 → slice_get l j ≡ Some s → P j s

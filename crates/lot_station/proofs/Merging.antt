@@ -1,4 +1,4 @@
--- What shares have together.
+-- The sum of shares.
 use Rattle.lot_station.proofs.Common.{Holder, List, ap, append-nil, append_assoc, arith, drop, get_or, length, length-append, sum_by, sum_by-append, sym, ℕ, [], ◌++◌, ◌+◌, ◌<◌, ◌∙◌, ◌∷◌, ◌≡◌}
 
 -- ---- seats taken in one after another

@@ -1,4 +1,4 @@
--- What a system's history has after one turn more.
+-- The totals of a system's history with one turn more.
 use Rattle.lot_station.proofs.Common.{All-pop, Answer, Answers, AtSome, Counts, Faults, Goes, Holder, IsLegal, IsWorkOf, List, Option, Parts, Program, Reply, Seen, Setting, Some, TurnFault, after_turn, ap, arith, cond, counted, counted-one_more, counted_with, length, length-append, quanta_in, refl, subst, sum_by_push, sym, ticks_in, total_of, turns_in, with_turn, ℕ, [], ◌++◌, ◌+◌, ◌==◌, ◌∙◌, ◌∷◌, ◌≡◌, ◌≤◌}
 
 -- ---- the totals

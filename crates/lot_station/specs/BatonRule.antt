@@ -41,6 +41,6 @@ Opened items views =
     × (out ≡ true → HoldsSystem holder views)
     × ((port : ℕ) (v : View) → get_elem? views port ≡ some v → ViewFits owner now out holder port v)
 
--- nothing has been pushed yet, and there is one pass without knowledge; or the queue is open
+-- no push has been made, and there is one pass without knowledge; or the queue is open
 abbrev pub Kept : List Seen → List View → Type 0
 Kept items views = ((items ≡ []) × (views ≡ newcomer ∷ [])) ⊎ Opened items views

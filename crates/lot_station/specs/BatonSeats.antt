@@ -1,4 +1,4 @@
--- Seats as contracts see them.
+-- Seats in contracts.
 use Rattle.std.specs.Prelude.{◌≡◌, ℕ, ◌+◌, Option, Some, None, List, [], ◌∷◌, length, slice_get}
 use Rattle.atomic_table.specs.Seated.{TableId}
 use Rattle.lot_script.specs.Slices.{Parts}
@@ -87,7 +87,7 @@ pub record Shows (x : Seen) (s : Seat) : Type 0 where
 
 -- ---- lists of seats
 
--- a seat for each actor from 0 on, in order, each of which has seen this
+-- a seat for each actor from 0 on, in order, each of which has seen this system
 abbrev pub Dealt : TableId → Seen → List Seat → Type 0
 Dealt station seen seats = (k : ℕ) (s : Seat) → slice_get seats k ≡ Some s → s ≡ seat station k seen None
 

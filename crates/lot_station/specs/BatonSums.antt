@@ -5,17 +5,17 @@ use Rattle.lot_engine.specs.Seen.{Seen}
 use Rattle.lot_station.specs.BatonSeats.{Seat, seat_counts}
 use Rattle.lot_station.specs.Settings.{counts_of}
 
--- the sum over a history's turns of a number for each
+-- the sum of this number of each turn over a history
 abbrev pub summed : (World → ℕ → ℕ) → Program → World → List ℕ → ℕ
 summed f program w [] = 0
 summed f program w (a ∷ rest) = f w a + summed f program (system_turn program w a).world rest
 
--- the sum over one actor's turns in a history of a number for each
+-- the sum of this number of each turn over one actor's turns in a history
 abbrev pub summed_by : (World → ℕ → ℕ) → Program → ℕ → World → List ℕ → ℕ
 summed_by f program b w [] = 0
 summed_by f program b w (a ∷ rest) = (if a == b then f w a else 0) + summed_by f program b (system_turn program w a).world rest
 
--- a seat's share of such a sum: over its actor's turns in the history that it has seen
+-- a seat's share of such a sum, over its actor's turns in the history that it has seen
 abbrev pub share : (World → ℕ → ℕ) → Seat → ℕ
 share f s = summed_by f s.seen.setting.program s.actor (opening_world s.seen.setting.program) s.seen.history
 

@@ -6,7 +6,7 @@ use Rattle.lot_engine.specs.declared.fault.TurnFault.{TurnFault}
 use Rattle.lot_engine.specs.Seen.{Seen}
 use Rattle.lot_station.specs.Settings.{times_in, turns_in}
 
--- a seat: its actor, its shares of the totals of all turns, quanta and ticks, and the fault that stopped its user
+-- a seat: its actor, its shares of the totals of all turns, quanta and ticks, and the fault that stopped its worker
 pub record Holder : Type 0 where
   pub actor : ℕ
   pub turns : ℕ
@@ -14,7 +14,7 @@ pub record Holder : Type 0 where
   pub ticks : ℕ
   pub stopped : Option TurnFault
 
--- the seat with one more turn, which got this reply
+-- the seat with one more turn, with this reply
 abbrev pub with_turn : Holder → Reply → Holder
 with_turn seat r = record seat { turns = seat.turns + 1; quanta = seat.quanta + quanta_in r; ticks = seat.ticks + ticks_in r }
 

@@ -1,6 +1,7 @@
 -- Systems of a program and a room.
 use Rattle.std.specs.Prelude.{ℕ, ◌==◌, List, [], count_by, false, None}
 use Rattle.lot_simulation.specs.Report.{ActorTurn, turns_made, turns_of}
+use Rattle.lot_simulation.specs.Words.{no_options}
 use Rattle.lot_simulation.specs.World.{IsLegal}
 use Rattle.lot_engine.specs.declared.counts.Counts.{Counts}
 use Rattle.lot_engine.specs.Counted.{counted}
@@ -36,7 +37,7 @@ pub record AtSome (setting : Setting) (IsSo : Seen → Type 0) : Type 0 where
   pub legal : IsLegal setting.program setting.room history
   pub is_so : IsSo (record { setting = setting; history = history })
 
--- some program and room, without a timer and without meaning
+-- some program and room, without a timer, as a placeholder
 abbrev pub no_setting : Setting
 no_setting = record {
   program = record {
@@ -50,7 +51,7 @@ no_setting = record {
     times = [];
     ticket_names = 0;
     names = [];
-    strict = false;
+    options = no_options;
   };
   room = 0;
   timer = false;

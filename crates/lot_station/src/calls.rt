@@ -11,8 +11,8 @@ use std::sync::Wait;
 use std::sync::ledger::Ledger;
 
 impl<T: TurnLedger, Q: Ledger, K: Ledger> Station<T, Q, K> {
-    /// Makes the turn of the seat's actor, as `System::turn` does. The seat's shares grow by one turn, by one quantum
-    /// if a thread won a draw, and by the turn's ticks; a fault leaves the seat unchanged. It may block.
+    /// Makes the turn of the seat's actor, like `System::turn`. The seat's shares grow by one turn, by one quantum if a
+    /// thread won a draw, and by the turn's ticks; a fault leaves the seat unchanged. It may block.
     ///
     /// The result, the next work in it and the fault are those of the system's program after some legal history.
     pub fn turn(
@@ -31,7 +31,7 @@ impl<T: TurnLedger, Q: Ledger, K: Ledger> Station<T, Q, K> {
         self.desk.lock(rt).turn(seat, slice)
     }
 
-    /// The next work of the seat's actor, as `System::work` returns it. It may block.
+    /// The next work of the seat's actor, like `System::work`. It may block.
     ///
     /// It is the work in the system's program after some legal history.
     pub fn work(&self, rt: &impl Wait, seat: &Seat<T, Q, K>) -> Option<Work>

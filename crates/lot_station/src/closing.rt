@@ -14,8 +14,8 @@ impl<T: TurnLedger, Q: Ledger, K: Ledger> Station<T, Q, K> {
     /// Takes the seats, and returns the system. Its history has as many turns of each actor as its seat made, and as
     /// many turns, quanta and ticks as all seats' shares together.
     ///
-    /// It fails if and only if the seats aren't one for each actor, in order (`SeatMissing`), or, if they are, a
-    /// share of turns isn't its actor's count in the history (`CountsDiffer`).
+    /// Fails with `SeatMissing` unless the seats are one for each actor, in order, and otherwise with `CountsDiffer` if
+    /// a share of turns isn't its actor's count in the history.
     pub fn close(self, seats: Vec<Seat<T, Q, K>>) -> Result<System, CloseFault<T, Q, K>>
         requires { (T.parts ≡ self.program.limits.processors + 1) × (Q.parts ≡ self.program.limits.processors + 1)
             × (K.parts ≡ self.program.limits.processors + 1) }
@@ -92,7 +92,7 @@ fn counts_agree<T: TurnLedger, Q: Ledger, K: Ledger>(
     true
 }
 
-/// All shares, joined to three.
+/// All shares, joined into three.
 fn merged<T: TurnLedger, Q: Ledger, K: Ledger>(
     mut seats: Vec<Seat<T, Q, K>>,
 ) -> (Share<T>, Share<Q>, Share<K>)

@@ -5,7 +5,7 @@ ghost use Rattle.lot_station.specs.Shares.{IsEnough};
 use std::marker::Model;
 use std::sync::ledger::{Blank, Book, Ledger, Share};
 
-/// One part of a ledger, with its amount as a number: a share itself has no size at run time.
+/// One part of a ledger, with its amount as a number, since a share has no size at run time.
 #[derive(Drop)]
 pub(crate) struct Holding<L: Ledger> {
     share: Share<L>,
@@ -36,14 +36,13 @@ impl<L: Ledger> Holding<L> {
         }
     }
 
-    /// The amount.
     pub(crate) fn amount(&self) -> u64
         ensures { result ≡ self.now }
     {
         self.amount
     }
 
-    /// Adds this much to the book and to the part. The book then has this total.
+    /// Adds `more` to the book and to the part. The book then has this total.
     pub(crate) fn add(&mut self, book: &mut Book<L>, more: u64, total: u64)
         requires { book.old.total + more ≡ total }
         ensures amount { self.new ≡ self.old + more }
@@ -65,7 +64,7 @@ impl<L: Ledger> Holding<L> {
     }
 }
 
-/// The book of a new ledger with this total, and the share of the whole.
+/// The book of a new ledger with this total, and the share of all of it.
 pub(crate) fn opened<L: Ledger>(blank: Blank, total: u64) -> (Book<L>, Share<L>)
     requires ledger { (blank.name ≡ L.name) × (blank.parts ≡ L.parts) }
     requires some { 0 < L.parts }

@@ -18,8 +18,9 @@ impl<T: TurnLedger, Q: Ledger, K: Ledger> Station<T, Q, K> {
     /// system's history. The blanks become the ledgers of turns, quanta and ticks, with one part for each seat. It
     /// fails only if out of memory, and then drops the system.
     ///
-    /// The system has no timer: a station's turns have no time, so nothing would wake a thread that sleeps, and no
-    /// seat has a share of a timer's turns. A program that sleeps is run without time (`Program::without_time`).
+    /// The system has no timer: a station's turns have no time, so nothing would wake a sleeping thread, and no seat
+    /// has a share of a timer's turns. To run a program that sleeps, open a system of it without time
+    /// (`Program::without_time`).
     pub fn open(
         alloc: Global,
         system: System,

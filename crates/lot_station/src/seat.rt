@@ -8,7 +8,7 @@ use std::marker::Model;
 use std::sync::ledger::Ledger;
 
 /// The right of one actor to make turns, with its shares of the totals of all turns, and storage for the fault that
-/// stopped its user.
+/// stopped its worker.
 #[derive(Drop)]
 pub struct Seat<T: TurnLedger, Q: Ledger, K: Ledger> {
     pub(crate) actor: u32,
@@ -36,35 +36,35 @@ impl<T: TurnLedger, Q: Ledger, K: Ledger> Model for Seat<T, Q, K> {
 }
 
 impl<T: TurnLedger, Q: Ledger, K: Ledger> Seat<T, Q, K> {
-    /// Its actor: 0 for the console, otherwise the processor.
+    /// The actor: 0 for the console, otherwise the processor's number.
     pub fn actor(&self) -> u32
         ensures { result ≡ self.now.actor }
     {
         self.actor
     }
 
-    /// Its share of the turns: the number that it made.
+    /// The share of the turns: the number that the seat has made.
     pub fn turns(&self) -> u64
         ensures { result ≡ self.now.turns }
     {
         self.turns.amount()
     }
 
-    /// Its share of the quanta: the draws among its turns that a thread won.
+    /// The share of the quanta: the won draws among the seat's turns.
     pub fn quanta(&self) -> u64
         ensures { result ≡ self.now.quanta }
     {
         self.quanta.amount()
     }
 
-    /// Its share of the ticks: the ticks of the expiries and traps among its turns.
+    /// The share of the ticks: those of the expiries and traps among the seat's turns.
     pub fn ticks(&self) -> u64
         ensures { result ≡ self.now.ticks }
     {
         self.ticks.amount()
     }
 
-    /// Stores the fault that stopped the seat's user, in place of any earlier one.
+    /// Stores the fault that stopped the seat's worker, in place of any earlier one.
     pub fn stop(&mut self, fault: TurnFault)
         ensures { self.new ≡ record self.old { stopped = Some fault } }
     {

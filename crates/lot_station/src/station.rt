@@ -28,7 +28,7 @@ impl<T: TurnLedger, Q: Ledger, K: Ledger> Model for Station<T, Q, K> {
     ghost invariant = { λ s. s.processors ≡ T.setting.program.limits.processors };
 }
 
-/// The reason why `close` failed, with the remaining parts of its arguments.
+/// The reason why `close` failed, with the parts of its arguments that it returns.
 #[derive(Drop)]
 pub enum CloseFault<T: TurnLedger, Q: Ledger, K: Ledger> {
     /// The seats aren't one for each actor, in order. Station and seats are unchanged.

@@ -1,4 +1,4 @@
--- Figures of which those at one place have changed, or none.
+-- Figures with a change at one place, or none.
 use Rattle.lot_system.proofs.Common.{CurrencyShares, Figures, IsChangedAt, List, None, Option, Some, ThreadRow, ThreadShares, ap, arith, currency_added, currency_after, get_or-set_other, get_or-set_same, length, length-set, option_flatten, refl, row_added, shares_added, shares_after, slice_get, slice_index_or, slice_set, suc, sym, thread_after, zero, ℕ, [], ◌<◌, ◌∙◌, ◌∷◌, ◌≡◌}
 
 module _ {F : Type 0} where

@@ -74,4 +74,4 @@ pub use Rattle.lot_system.specs.declared.form.ReportForm.{ReportForm}
 pub use Rattle.lot_system.specs.declared.form.ReportForm.TheVariants.{CurrencyTable, Lines, Table}
 pub use Rattle.lot_system.specs.declared.inputs.Played.{Played}
 pub use Rattle.lot_system.specs.declared.inputs.Played.TheVariants.{Done}
-pub use Rattle.lot_system.specs.declared.warnings.Warnings.{Warnings}
+pub use Rattle.lot_simulation.specs.declared.warnings.Warnings.{Warnings}

@@ -1,4 +1,4 @@
--- Lines that were put, one turn after another.
+-- Lines put on the page, turn by turn.
 use Rattle.lot_system.proofs.Common.{Begins, Bool, Err, IfErr, IoFault, IsPut, List, MadeTurn, Ok, OnOk, Option, Put, Result, Write, Written, ap, append-nil, begins-front, false, flat_map, flat_map-append, put-all, put-begun, puts-both, puts-stop, subst, sym, true, ℕ, [], ◌++◌, ◌∙◌, ◌∷◌, ◌≡◌}
 
 -- ---- texts of turns, each of which is this one

@@ -1,4 +1,4 @@
--- How many rows a listing has, and that it is its first line and theirs.
+-- The number of a listing's rows, and its text as its first line and theirs.
 use Rattle.lot_system.proofs.Common.{Bool, Currencies, Kind, LineStyle, List, State, Tickets, ap, append-nil, append_assoc, arith, codes, decimal, false, filter, filter-append, first_number, flat_map, front, given_count, length, length-append, listing_line, listing_text, newline, range_with_len, refl, row_line, rows_among, suc, sym, true, zero, ℕ, [], ◌++◌, ◌+◌, ◌∙◌, ◌∷◌, ◌≡◌}
 use Rattle.lot_machine.specs.declared.command.Kind.TheVariants.{Threads}
 

@@ -1,4 +1,4 @@
--- A play whose turns are written first, and then the report.
+-- A play that writes its turns first, and then the report.
 use Rattle.lot_system.proofs.Common.{Appends, Begins, Bool, Done, EndsPlay, Err, IfOk, IoFault, IsErrAnd, List, Ok, OnOk, Option, Played, Result, Write, ap, appends-both, begins-after, begins-front, false, refl, subst, sym, true, ℕ, ◌++◌, ◌≡◌}
 
 module _ (old new : Option (List ℕ)) (turns last all : List ℕ) (is : all ≡ turns ++ last) (failed : Bool) where

@@ -1,4 +1,4 @@
--- What the report of turns in time shows is what the definitions say of all of the program's turns.
+-- The report of timed turns is that of the definitions for all of the program's turns.
 use Rattle.lot_system.proofs.Common.{ActorTurn, AreCurrencies, AreDue, AreReadyFor, AreRefusedTraps, AreSpans, Counts, CurrencyShares, CurrencyTable, Due, EarlyEnd, IsAtEnd, Lines, List, Moment, None, Option, PastLives, Program, Record, ReportForm, Seen, Sizes, Some, Spans, State, Table, ThreadRow, ThreadShares, Threads, TimedProcessorTotal, TimedTurn, TimedWholeTotal, Timekeeper, World, actor_turns, ap, arith, at_number, base_time, clock_of, counted, currency_due_in, currency_name, currency_shares_in, currency_ticks_in, due_in, early_end, early_text, end_of, ended_at, fold, fold_push, following, idle_until, inl, inr, last_moment, length, length-map, life_change, live_part, live_time, live_value, map, moment_after_all, moment_in, mutex_change, no_lives, opening, opening_moment, opening_world, option_and_then, option_map, option_map_or, past_lives, processor_in, range_with_len, range_with_len-push, ready_in, refl, refusals_in, refused_traps_in, reply_change, report_at, room-few, room-small, row_of_thread, shares_in, spans_in, subst, sym, system_after, system_turn, thread_name, thread_row, ticks_in, timed-made, timed_currency_line, timed_currency_text, timed_report, timed_report_of, timed_thread_line, timed_thread_record, timed_thread_text, timed_turns, total_of, turn-limits, turns_made, turns_of, value_of, whole_in, with_lives, within-room, world_of, ℕ, [], ⊤, ◌++◌, ◌+◌, ◌<◌, ◌^◌, ◌∙◌, ◌∷◌, ◌≡◌, ◌⊎◌}
 
 -- the form of a table

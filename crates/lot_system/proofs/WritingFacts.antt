@@ -1,4 +1,4 @@
--- What is written in parts.
+-- Text written in parts.
 use Rattle.lot_system.proofs.Common.{Appends, Begins, Bool, Err, IoFault, List, Ok, Option, Put, Result, Written, ap, append-nil, append_assoc, appends-both, arith, begins-after, begins-front, flat_map, range-push, range_with_len, subst, suc, sym, zero, ℕ, [], ◌++◌, ◌+◌, ◌-◌, ◌<◌, ◌∙◌, ◌≡◌}
 
 -- a text that is written after what waited, so that nothing waits

@@ -2,10 +2,8 @@
 pub mod Texts
 -- The contents of a listing, number by number.
 pub mod Listing
--- The outcome of an input that is played, or shown in another way.
+-- The outcome of an input that is played or shown.
 pub mod Played
--- The first few items of a kind.
-pub mod Kept
 -- The warnings of a run.
 pub mod Leaving
 -- The end of a play.

@@ -1,4 +1,4 @@
--- The outcome of an input that is played, or shown in another way.
+-- The outcome of an input that is played or shown.
 use Rattle.std.specs.Prelude.{◌≡◌, ℕ, Bool, true, false, Option, Ok, Err, Result, List, IfErr, IfOk, OnOk}
 use Rattle.std.specs.Io.KnownBytes.{Appends, Keeps}
 use Rattle.lot_simulation.specs.declared.input.InputFault.{InputFault}
@@ -38,8 +38,9 @@ HasLeft text left rest old new other = Keeps old new
 abbrev pub Leaves : (List ℕ → List ℕ) → {S : Type 0} {T : Type 0} → (S → Option (List ℕ)) → Watch S → Watch S → (T → Option (List ℕ)) → Watch T → Watch T → IoFault → Type 0
 Leaves text remaining reader after contents old new fault = HasLeft text (remaining reader.inner) (remaining after.inner) (contents old.inner) (contents new.inner) fault
 
--- The result of reading an input and writing this text for its bytes: without a fault nothing failed, and the text
--- was written and flushed. A fault tells what failed, and on Write a beginning of the text was written.
+-- The result of reading an input and writing this text for its bytes: without a fault neither the reader nor the writer
+-- failed, and the text was written and flushed. A fault tells what failed; on Write a beginning of the text was
+-- written.
 pub record PlaysInput {S : Type 0} {T : Type 0} (text : List ℕ → List ℕ) (remaining : S → Option (List ℕ)) (reader after : Watch S) (contents : T → Option (List ℕ)) (old new : Watch T) (result : Result Played IoFault) : Type 0 where
   pub ok : OnOk result ((after.failed ≡ false) × (new.failed ≡ false))
   pub flushed : OnOk result (new.flushed ≡ true)

@@ -32,7 +32,7 @@ thread_text Lines = thread_total
 thread_text Table = thread_record
 thread_text CurrencyTable = thread_record
 
--- what the report of a timed program tells of a thread after these turns, in addition to its row
+-- the fields that a timed report adds to a thread's row after these turns
 abbrev pub shares_in : State → List TimedTurn → ℕ → ThreadShares
 shares_in s turns t = record {
   all_ticks = total_of ticks_in (actor_turns turns);
@@ -55,7 +55,7 @@ timed_thread_text CurrencyTable s turns = λ t row. timed_thread_record t row (s
 
 -- ---- currencies
 
--- what the report of a timed program tells of a currency after these turns
+-- the fields of a currency in a timed report after these turns
 abbrev pub currency_shares_in : State → List TimedTurn → ℕ → CurrencyShares
 currency_shares_in s turns c = record {
   ticks = currency_ticks_in (opening s.limits) turns c;
@@ -72,7 +72,7 @@ timed_currency_text CurrencyTable s turns = λ c name. timed_currency_record c n
 
 -- ---- processors and totals
 
--- what the report of a timed program tells of a processor after these turns, which led to this moment, up to this end
+-- the fields of a processor in a timed report after these turns, which led to this moment, up to this end
 abbrev pub processor_in : Moment → ℕ → List ActorTurn → ℕ → TimedProcessorTotal
 processor_in m end turns p = record {
   processor = p;
@@ -82,7 +82,7 @@ processor_in m end turns p = record {
   unused = idle_until end (clock_of m.clocks p);
 }
 
--- what it tells of all actors
+-- the fields of all actors in a timed report
 abbrev pub whole_in : Moment → List TimedTurn → TimedWholeTotal
 whole_in m turns = record {
   turns = length turns;

@@ -35,17 +35,17 @@ use Rattle.lot_print.specs.TableRows.{figures_record, header_row}
 use Rattle.lot_system.specs.declared.figures.AllFigures.{AllFigures}
 use Rattle.lot_system.specs.declared.form.ReportForm.{ReportForm}
 use Rattle.lot_system.specs.declared.form.ReportForm.TheVariants.{CurrencyTable, Lines, Table}
-use Rattle.lot_system.specs.Kept.{one_more}
+use Rattle.lot_simulation.specs.Kept.{one_more}
 use Rattle.lot_system.specs.Last.{all_ticks, last_world}
 use Rattle.lot_system.specs.ReportTable.{currency_shares_in, processor_in, shares_in, whole_in}
 
 -- ---- a figure
 
--- the spread of no plays
+-- the spread over no plays
 abbrev pub no_spread : Spread
 no_spread = record { plays = 0; sum = 0; least = 0; most = 0 }
 
--- The spread over one more play, which has this figure. The sum saturates at the largest number of 128 bits.
+-- The spread with this figure of one more play. The sum saturates at the largest 128-bit number.
 abbrev pub spread_with : Spread → ℕ → Spread
 spread_with spread figure = record {
   plays = one_more spread.plays;
@@ -54,7 +54,7 @@ spread_with spread figure = record {
   most = max spread.most figure;
 }
 
--- the same for a play that may lack the figure
+-- the same for a figure that the play may lack
 abbrev pub spread_after : Spread → Option ℕ → Spread
 spread_after spread None = spread
 spread_after spread (Some figure) = spread_with spread figure
@@ -65,15 +65,15 @@ percent_of part whole = if whole == 0 then 0 else part * 100000 / whole
 
 -- ---- a thread
 
--- no spans of time in any play
+-- the figures of spans over no plays
 abbrev pub no_spans : SpanFigures
 no_spans = record { count = no_spread; mean = no_spread; longest = no_spread }
 
--- this figure, unless it is one of no spans
+-- this figure, or none if there are no spans
 abbrev pub if_any : ℕ → ℕ → Option ℕ
 if_any count figure = if count == 0 then None else Some figure
 
--- spans over one more play, which had these; their mean is in thousandths of a tick, rounded down
+-- spans of time, with those of one more play; their mean is in thousandths of a tick, rounded down
 abbrev pub spans_with : SpanFigures → PastLives → SpanFigures
 spans_with figures spans = record {
   count = spread_with figures.count spans.count;
@@ -81,12 +81,12 @@ spans_with figures spans = record {
   longest = spread_after figures.longest (if_any spans.count spans.longest);
 }
 
--- a thread's waits of one kind over one more play, which had these
+-- a thread's waits of one kind, with those of one more play
 abbrev pub waits_with : SpanFigures → Spans → SpanFigures
 waits_with figures waits =
     spans_with figures (record { count = waits.count; total = waits.total; longest = waits.longest })
 
--- when the last thread with these lives was made, if there was one
+-- the time at which the last thread with these lives was made, if there was one
 abbrev pub made_time : Spans → Option ℕ
 made_time lives = at lives.since (option_map (λ life. life.from) lives.last)
   where
@@ -94,7 +94,7 @@ made_time lives = at lives.since (option_map (λ life. life.from) lives.last)
     at (Some since) past = Some since
     at None past = past
 
--- when it ended, if it has
+-- the time at which it ended, if it has
 abbrev pub end_time : Spans → Option ℕ
 end_time lives = at lives.since (option_map (λ life. life.to) lives.last)
   where
@@ -120,7 +120,7 @@ no_figures = record {
   ended = no_spread;
 }
 
--- a thread's figures over one more play, which ended with this row of the thread and this many ticks of all turns
+-- a thread's figures with those of one more play, which ended with this row and this many ticks over all turns
 abbrev pub row_added : ℕ → Figures → ThreadRow → Figures
 row_added all figures row = record figures {
   name = row.name;
@@ -130,7 +130,7 @@ row_added all figures row = record figures {
   share = spread_with figures.share (percent_of row.ticks all);
 }
 
--- the same with what the report of a timed program tells in addition
+-- the same with the fields that a timed report adds
 abbrev pub shares_added : Figures → ThreadShares → Figures
 shares_added figures shares = record figures {
   due = spread_with figures.due (percent_of shares.due (shares.live_time * tick_parts));
@@ -148,12 +148,12 @@ abbrev pub shares_after : Figures → Option ThreadShares → Figures
 shares_after figures None = figures
 shares_after figures (Some shares) = shares_added figures shares
 
--- a thread's figures over one more play, which may have ended without the thread
+-- a thread's figures with those of one more play, which may have ended without the thread
 abbrev pub thread_after : ℕ → Option ThreadRow → Option ThreadShares → Figures → Figures
 thread_after all None told figures = figures
 thread_after all (Some row) told figures = shares_after (row_added all figures row) told
 
--- what the report of a timed program tells of a thread in addition to its row
+-- the fields that a timed report adds to a thread's row
 abbrev pub thread_told : Program → ℕ → Option ThreadShares
 thread_told program t =
     option_map (λ duration. shares_in (last_world program).state (timed_turns program) t) program.duration
@@ -163,14 +163,14 @@ abbrev pub told_at_end : Seen → Order → ℕ → Option ThreadShares
 told_at_end seen (Scheduled place) t = None
 told_at_end seen (InTime timekeeper) t = Some (shares_in (world_of seen).state (timed_turns seen.setting.program) t)
 
--- the figures of the thread with this number over one more play, of this program
+-- the thread's figures with those of one more play, of this program
 abbrev pub thread_played : ℕ → Figures → Program → Figures
 thread_played t figures program =
     thread_after (all_ticks program) (thread_row (last_world program).state t) (thread_told program t) figures
 
 -- ---- a currency
 
--- a currency's figures over one more play, at whose end it had this name, and for which the report tells this
+-- a currency's figures with those of one more play, at whose end it had this name and these fields of the report
 abbrev pub currency_added : Figures → List ℕ → CurrencyShares → Figures
 currency_added figures name shares = record figures {
   name = name;
@@ -185,15 +185,14 @@ abbrev pub currency_after : Option (List ℕ) → CurrencyShares → Figures →
 currency_after None shares figures = figures
 currency_after (Some name) shares figures = currency_added figures name shares
 
--- the figures of the currency with this number after a play that has come to this position: only reports of timed
--- programs tell of currencies
+-- The currency's figures after a play that has come to this position. Only timed reports have fields of currencies.
 abbrev pub currency_at_end : Seen → Order → ℕ → Figures → Figures
 currency_at_end seen (Scheduled place) c figures = figures
 currency_at_end seen (InTime timekeeper) c figures =
     currency_after (currency_name (world_of seen).state c)
     (currency_shares_in (world_of seen).state (timed_turns seen.setting.program) c) figures
 
--- the figures of the currency with this number over one more play, of this program
+-- the currency's figures with those of one more play, of this program
 abbrev pub currency_played : ℕ → Figures → Program → Figures
 currency_played c figures program = after program.duration
   where
@@ -209,7 +208,7 @@ currency_played c figures program = after program.duration
 abbrev pub no_processor_figures : ProcessorFigures
 no_processor_figures = record { plays = 0; quanta = no_spread; idles = no_spread; ticks = no_spread; unused = no_spread }
 
--- a processor's figures over one more play, for which the report tells this
+-- a processor's figures with those of one more play
 abbrev pub processor_added : ProcessorFigures → TimedProcessorTotal → ProcessorFigures
 processor_added figures total = record {
   plays = one_more figures.plays;
@@ -219,15 +218,14 @@ processor_added figures total = record {
   unused = spread_with figures.unused total.unused;
 }
 
--- the figures of this processor after a play that has come to this position: only reports of timed programs tell how
--- long it was idle
+-- The processor's figures after a play that has come to this position. Only timed reports have its idle time.
 abbrev pub processor_at_end : Seen → Order → ℕ → ProcessorFigures → ProcessorFigures
 processor_at_end seen (Scheduled place) p figures = figures
 processor_at_end seen (InTime timekeeper) p figures =
     processor_added figures (processor_in (moment_in seen timekeeper)
     (ended_at seen.setting.program (moment_in seen timekeeper)) (actor_turns (timed_turns seen.setting.program)) p)
 
--- the figures of this processor over one more play, of this program
+-- the processor's figures with those of one more play, of this program
 abbrev pub processor_played : ℕ → ProcessorFigures → Program → ProcessorFigures
 processor_played p figures program = after program.duration
   where
@@ -251,7 +249,7 @@ no_whole_figures = record {
   lives = no_spans;
 }
 
--- the figures of all actors over one more play, for which the report tells this
+-- the figures of all actors with those of one more play
 abbrev pub whole_added : WholeFigures → TimedWholeTotal → WholeFigures
 whole_added figures total = record {
   plays = one_more figures.plays;
@@ -269,7 +267,7 @@ whole_at_end seen (Scheduled place) figures = figures
 whole_at_end seen (InTime timekeeper) figures =
     whole_added figures (whole_in (moment_in seen timekeeper) (timed_turns seen.setting.program))
 
--- the figures of all actors over one more play, of this program
+-- the figures of all actors with those of one more play, of this program
 abbrev pub whole_played : WholeFigures → Program → WholeFigures
 whole_played figures program = after program.duration
   where
@@ -279,17 +277,16 @@ whole_played figures program = after program.duration
 
 -- ---- several plays
 
--- figures over a play of the program with each of these seeds: `none` over no plays, and after each play what `played`
--- says
+-- The figures over a play of the program with each of these seeds: they start as `none`, and `played` adds each play.
 abbrev pub over : {F : Type 0} → F → (F → Program → F) → Program → List ℕ → F
 over none played program seeds = fold (λ figures seed. played figures (with_seed (Some seed) program)) none seeds
 
--- how many threads, or currencies, the program may have at once
+-- the largest number of threads, or of currencies, that the program may have at once
 abbrev pub count_of : Subject → Program → ℕ
 count_of Thread program = program.limits.threads
 count_of Currency program = program.limits.currencies
 
--- the figures of the thread, or the currency, with this number over one more play, of this program
+-- the figures of the thread or the currency with those of one more play, of this program
 abbrev pub figures_played : Subject → ℕ → Figures → Program → Figures
 figures_played Thread = thread_played
 figures_played Currency = currency_played
@@ -306,7 +303,7 @@ processor_over program seeds p = over no_processor_figures (processor_played p) 
 abbrev pub whole_over : Program → List ℕ → WholeFigures
 whole_over program seeds = over no_whole_figures whole_played program seeds
 
--- there are so many figures, each what this function says of its number, starting with 1
+-- a list of `count` figures: this function gives each by its number, from 1
 pub record AreEach {F : Type 0} (count : ℕ) (of : ℕ → F) (figures : List F) : Type 0 where
   pub many : length figures ≡ count
   pub each : (place : ℕ) (d : F) → place < length figures → slice_index_or figures place d ≡ of (place + 1)
@@ -318,18 +315,18 @@ pub record AreAllFigures (program : Program) (seeds : List ℕ) (all : AllFigure
   pub processors : AreEach program.limits.processors (processor_over program seeds) all.processors.items
   pub whole : all.whole ≡ whole_over program seeds
 
--- the figures after a change that this function of their numbers says, starting with number 1
+-- the figures after a change: this function gives each by its number, from 1
 pub record AreChanged {F : Type 0} (after : ℕ → F → F) (old new : List F) : Type 0 where
   pub count : length new ≡ length old
   pub each : (place : ℕ) (d : F) → place < length old → slice_index_or new place d ≡ after (place + 1) (slice_index_or old place d)
 
--- only the figures at this place have changed, as this function says
+-- this function changes only the figures at this place
 pub record IsChangedAt {F : Type 0} (place : ℕ) (after : F → F) (old new : List F) : Type 0 where
   pub count : length new ≡ length old
   pub there : (d : F) → slice_index_or new place d ≡ after (slice_index_or old place d)
   pub others : (other : ℕ) (d : F) → other ≢ place → slice_index_or new other d ≡ slice_index_or old other d
 
--- all figures over one more play, of this program
+-- all figures with those of one more play, of this program
 pub record AreOverOneMore (program : Program) (old new : AllFigures) : Type 0 where
   pub threads : AreChanged (λ t figures. thread_played t figures program) old.threads.items new.threads.items
   pub currencies : AreChanged (λ c figures. currency_played c figures program) old.currencies.items new.currencies.items
@@ -380,7 +377,7 @@ subjects_text table subject program seeds =
     flat_map (λ n. figures_text table subject n (figures_over subject program seeds n))
     (range_with_len 1 (count_of subject program))
 
--- the line of a processor; tables have none, nor has a report of plays that tell nothing of it
+-- the line of a processor; none in a table or without its figures
 abbrev pub processor_text : Option FiguresTable → ℕ → ProcessorFigures → List ℕ
 processor_text None p figures = if figures.plays == 0 then [] else processor_figures_line p figures
 processor_text (Some table) p figures = []
@@ -390,7 +387,7 @@ abbrev pub processors_text : Option FiguresTable → Program → List ℕ → Li
 processors_text table program seeds =
     flat_map (λ p. processor_text table p (processor_over program seeds p)) (range_with_len 1 program.limits.processors)
 
--- the last lines; tables have none, nor has a report of plays that tell nothing of them
+-- the last lines; none in a table or without their figures
 abbrev pub whole_text : Option FiguresTable → WholeFigures → List ℕ
 whole_text None figures = if figures.plays == 0 then [] else whole_figures_lines figures
 whole_text (Some table) figures = []
@@ -403,8 +400,8 @@ totals_text table program seeds = processors_text table program seeds ++ whole_t
 abbrev pub others_text : Option FiguresTable → Program → List ℕ → List ℕ
 others_text table program seeds = subjects_text table Currency program seeds ++ totals_text table program seeds
 
--- The report over a play with each seed from the first to the last: lines or a row for each thread that a play ended
--- with, and for each such currency, and lines for the processors and for all actors.
+-- The report over a play with each seed from the first to the last: lines or a row for each thread and each currency at
+-- the end of a play, and lines for the processors and for all actors.
 abbrev pub seeds_report : ReportForm → ℕ → ℕ → Program → List ℕ
 seeds_report form first last program = report (table_of form program.duration)
   where

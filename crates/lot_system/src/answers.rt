@@ -16,7 +16,7 @@ use lot_print::{Heading, Page, write_reply};
 use lot_simulation::LineStyle;
 use std::io::Write;
 
-/// Puts the lines of a turn on the page. It writes a listing at once.
+/// Puts the lines of a turn on the page. It writes a listing at once. Fails with `Write` if the writer fails.
 #[inline(always)]
 pub fn put_answer<W: Write>(
     system: &mut System,
@@ -57,7 +57,7 @@ pub fn heading(system: &System, style: LineStyle, actor: u32) -> Heading
     }
 }
 
-/// The actor as it is printed: the timer is the one after the processors, whichever thread it wakes.
+/// The actor in print: the timer is the actor after the processors, whichever thread it wakes.
 #[inline(always)]
 pub fn printed_actor(system: &System, actor: u32) -> u32
     ensures { result ≡ output.printed_actor (world_of system.now).state actor }

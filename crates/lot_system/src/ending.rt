@@ -1,4 +1,4 @@
-//! The end of a run's output: the report, and the history as lines that reproduce it.
+//! The end of a free run's output: the report, and the history as input lines that reproduce it.
 ghost use Rattle.std.specs.Prelude.{◌≡◌, false, true, OnOk};
 ghost use Rattle.lot_simulation.specs.Output.{end_text};
 ghost use Rattle.lot_system.specs.Endings.{shown_end};
@@ -10,8 +10,8 @@ use lot_io::{IoFault, Watched, flush};
 use lot_print::write_history;
 use std::io::Write;
 
-/// Writes the report, and then the history as lines that an input of this unit may have and that reproduce it; then
-/// flushes.
+/// Writes the report, then the history as lines of an input with this unit, and flushes. Fails with `Write` if the
+/// writer fails.
 pub fn write_end<W: Write>(system: &mut System, writer: &mut Watched<W>) -> Result<(), IoFault>
     requires { writer.old.failed ≡ false }
     ensures same { system.new ≡ system.old }

@@ -52,7 +52,7 @@ impl Drop for AllFigures {
     }
 }
 
-/// The figures of a processor over no plays.
+/// The figures of a processor before any play.
 const NO_PROCESSOR_FIGURES: ProcessorFigures = ProcessorFigures {
     plays: 0,
     quanta: NO_SPREAD,
@@ -61,7 +61,7 @@ const NO_PROCESSOR_FIGURES: ProcessorFigures = ProcessorFigures {
     unused: NO_SPREAD,
 };
 
-/// The figures of all actors over no plays.
+/// The figures of all actors before any play.
 const NO_WHOLE_FIGURES: WholeFigures = WholeFigures {
     plays: 0,
     turns: NO_SPREAD,
@@ -73,7 +73,7 @@ const NO_WHOLE_FIGURES: WholeFigures = WholeFigures {
 };
 
 impl AllFigures {
-    /// The figures over no plays of the program.
+    /// The program's figures before any play.
     pub(crate) fn over_no_plays(alloc: Global, program: &Program) -> Result<AllFigures, AllocError>
         ensures { IfOk result (AreAllFigures program.now []) }
     {
@@ -87,14 +87,14 @@ impl AllFigures {
     }
 }
 
-/// The figures of so many processors over no plays.
+/// The figures of `count` processors before any play.
 fn no_processor_figures(alloc: Global, count: u32) -> Result<Vec<ProcessorFigures>, AllocError>
     ensures { IfOk result (λ figures. figures.items ≡ replicate count seeds.no_processor_figures) }
 {
     vec![in alloc; NO_PROCESSOR_FIGURES; count as usize]
 }
 
-/// The figures of so many threads or currencies over no plays.
+/// The figures of `count` threads or currencies before any play.
 fn no_figures(alloc: Global, count: u32) -> Result<Vec<Figures>, AllocError>
     ensures { IfOk result (λ figures. figures.items ≡ replicate count seeds.no_figures) }
 {
@@ -105,7 +105,7 @@ fn no_figures(alloc: Global, count: u32) -> Result<Vec<Figures>, AllocError>
     Ok(figures)
 }
 
-/// The figures of a thread or a currency over no plays.
+/// The figures of a thread or a currency before any play.
 fn of_no_plays() -> Figures
     ensures { result ≡ seeds.no_figures }
 {
@@ -136,7 +136,7 @@ fn no_name() -> Name
     }
 }
 
-/// Adds the figures of a play of the program at its end.
+/// Adds the figures at the end of a play of the program.
 pub(crate) fn add_play(all: &mut AllFigures, program: &Program, system: &mut System, order: &Order)
     requires program { system.old.setting.program ≡ program.now }
     requires threads { length all.old.threads.items ≡ program.now.limits.threads }
@@ -160,7 +160,7 @@ pub(crate) fn add_play(all: &mut AllFigures, program: &Program, system: &mut Sys
     }
 }
 
-/// Adds the figures of a timed play of the program at its end, except those of threads.
+/// Adds the figures at the end of a timed play of the program, except those of threads.
 fn add_timed(all: &mut AllFigures, program: &Program, system: &System, timekeeper: &Timekeeper)
     requires program { system.now.setting.program ≡ program.now }
     requires currencies { length all.old.currencies.items ≡ program.now.limits.currencies }
@@ -190,7 +190,7 @@ fn add_timed(all: &mut AllFigures, program: &Program, system: &System, timekeepe
     add_whole(&mut all.whole, whole_total(system, timekeeper));
 }
 
-/// Adds each thread's figures of a play at its end, in a system with so many threads at most.
+/// Adds the figures of each thread at the end of a play, in a system with at most `threads` threads.
 fn add_threads(figures: &mut Vec<Figures>, threads: u32, system: &mut System, order: &Order)
     requires count { length figures.old.items ≡ threads }
     requires threads { threads ≡ system.old.setting.program.limits.threads }
@@ -210,7 +210,7 @@ fn add_threads(figures: &mut Vec<Figures>, threads: u32, system: &mut System, or
     }
 }
 
-/// What the report of a timed program tells of the thread with this number, in addition to its row.
+/// The fields that a timed report adds to the row of the thread with this number.
 fn told_of(
     system: &mut System,
     order: &Order,
@@ -254,7 +254,7 @@ fn add_thread(
     }
 }
 
-/// Adds this row of a thread, with which a play ended.
+/// Adds the thread's row at the end of a play.
 fn add_row(figures: &mut Figures, row: &ThreadRow, all_ticks: u64)
     ensures { figures.new ≡ row_added all_ticks figures.old row.now }
 {
@@ -265,7 +265,7 @@ fn add_row(figures: &mut Figures, row: &ThreadRow, all_ticks: u64)
     figures.share = spread_with(figures.share, percent_of(row.ticks, u128::from(all_ticks)));
 }
 
-/// Adds what the report of a timed program tells of a thread.
+/// Adds the fields of a thread in a timed report.
 fn add_shares(figures: &mut Figures, shares: ThreadShares)
     requires live { shares.live_time < 2 ^ 57 }
     requires due { shares.due < 2 ^ 121 }
@@ -283,7 +283,7 @@ fn add_shares(figures: &mut Figures, shares: ThreadShares)
     figures.ended = spread_after(figures.ended, end_time(shares.lives));
 }
 
-/// When the last thread with these lives was made, if there was one.
+/// The time at which the last thread with these lives was made, if there was one.
 fn made_time(lives: Spans) -> Option<u32>
     ensures { result ≡ seeds.made_time lives }
 {
@@ -294,7 +294,7 @@ fn made_time(lives: Spans) -> Option<u32>
     }
 }
 
-/// When it ended, if it has.
+/// The time at which it ended, if it has.
 fn end_time(lives: Spans) -> Option<u32>
     ensures { result ≡ seeds.end_time lives }
 {
@@ -305,7 +305,7 @@ fn end_time(lives: Spans) -> Option<u32>
     }
 }
 
-/// Adds each currency's figures of a timed play at its end, in a system with so many currencies at most.
+/// Adds the figures of each currency at the end of a timed play, in a system with at most this many currencies.
 fn add_currencies(
     figures: &mut Vec<Figures>,
     currencies: u32,
@@ -340,7 +340,7 @@ fn add_currency(figures: &mut Vec<Figures>, place: u32, system: &System, timekee
     add_told(&mut figures[place as usize], name, shares);
 }
 
-/// Adds what the report of a timed program tells of a currency with this name.
+/// Adds the fields of a currency with this name in a timed report.
 fn add_told(figures: &mut Figures, name: Name, shares: CurrencyShares)
     requires time { shares.base_time < 2 ^ 57 }
     requires due { shares.due < 2 ^ 121 }
@@ -355,7 +355,7 @@ fn add_told(figures: &mut Figures, name: Name, shares: CurrencyShares)
     figures.due = spread_with(figures.due, due);
 }
 
-/// Adds each processor's figures of a timed play, which ended at this time, in a system with so many processors.
+/// Adds the figures of each processor at the end of a timed play, which ended at this time.
 fn add_processors(
     figures: &mut Vec<ProcessorFigures>,
     processors: u32,
@@ -388,7 +388,7 @@ fn add_processor(figures: &mut Vec<ProcessorFigures>, place: usize, total: Timed
     figures.unused = spread_with(figures.unused, u128::from(total.unused));
 }
 
-/// Adds a play's figures of all actors.
+/// Adds the figures of all actors in a play.
 fn add_whole(figures: &mut WholeFigures, total: TimedWholeTotal)
     requires { total.lives.total < 2 ^ 118 }
     ensures { figures.new ≡ whole_added figures.old total }

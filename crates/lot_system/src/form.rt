@@ -7,7 +7,6 @@ pub enum ReportForm {
     Lines,
     /// A table: the columns' names, and a row for each thread, with commas between the fields.
     Table,
-    /// A table with a row for each currency of a timed program, instead of each thread. For another program it is the
-    /// table of threads.
+    /// A table with a row for each currency of a timed program. For another program it is the table of threads.
     CurrencyTable,
 }

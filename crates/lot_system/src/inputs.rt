@@ -6,26 +6,27 @@ ghost use Rattle.lot_simulation.specs.Texts.{fault_line};
 ghost use Rattle.lot_system.specs.Played.{Plays, PlaysInput, came_of};
 ghost use Rattle.lot_system.specs.declared.inputs.Played.TheVariants.{Done, Refused};
 
-use crate::{Warnings, play_program};
+use crate::play_program;
 use lot_io::{IoFault, Watched, flush, read_input};
 use lot_print::write_fault;
 use lot_program::Program;
-use lot_simulation::InputFault;
+use lot_simulation::{InputFault, Warnings};
 use lot_text::{ParseFault, parse};
 use std::alloc::Global;
 use std::io::{Read, Write};
 
-/// The outcome of an input.
+/// The outcome of playing an input.
 #[derive(Clone, Copy, Debug, PartialEq, Eq)]
 pub enum Played {
-    /// Its schedule was played to the end.
+    /// The play ended, by its schedule, its duration or a refusal of a strict program.
     Done,
-    /// The input was refused, and the line that says so was written.
+    /// The input was refused, and one line with the refusal was written.
     Refused,
 }
 
-/// Reads an input, makes its turns, and writes a line for each turn and then the report; or one line, if the input is
-/// refused. On a fault it has written nothing, unless the writer failed.
+/// Reads an input, makes its turns, and writes a line for each turn and then the report; or one line for a refused
+/// input. Fails with `Read` if the reader fails, with `Write` if the writer fails, after a beginning of the output, and
+/// with `Memory` if out of memory. Only with `Write` has it written anything.
 pub fn play<R: Read, W: Write>(
     alloc: Global,
     reader: &mut Watched<R>,
@@ -38,7 +39,7 @@ pub fn play<R: Read, W: Write>(
     play_unwarned(alloc, bytes.as_slice(), writer)
 }
 
-/// Plays the input in `bytes`, or writes its refusal, and forgets its warnings.
+/// Plays the input in `bytes`, or writes its refusal, and drops its warnings.
 fn play_unwarned<W: Write>(
     alloc: Global,
     bytes: &[u8],
@@ -55,8 +56,9 @@ fn play_unwarned<W: Write>(
     play_bytes(alloc, bytes, &mut warnings, writer)
 }
 
-/// Plays the input in `bytes`, or writes its refusal, as `play` does, for callers that report more: it stores the
-/// run's warnings in `warnings`. It allocates all its memory before the first turn.
+/// Plays the input in `bytes`, or writes its refusal, like `play`, and stores the run's warnings in `warnings`. It
+/// allocates all its memory before the first turn. Fails with `Memory` before it has written anything, and with `Write`
+/// if the writer fails.
 pub fn play_bytes<W: Write>(
     alloc: Global,
     bytes: &[u8],
@@ -75,7 +77,7 @@ pub fn play_bytes<W: Write>(
     }
 }
 
-/// Plays the program of an input, and lets go of it.
+/// Plays the program of an input, and frees it.
 fn play_parsed<W: Write>(
     alloc: Global,
     program: Program,
@@ -89,7 +91,7 @@ fn play_parsed<W: Write>(
     play_program(alloc, &program, warnings, writer)
 }
 
-/// Writes the one line of a refused input, as `play` does.
+/// Writes the one line for a refused input, like `play`. Fails with `Write` if the writer fails.
 pub fn refuse<W: Write>(fault: InputFault, writer: &mut Watched<W>) -> Result<Played, IoFault>
     requires { writer.old.failed ≡ false }
     ensures flushed { OnOk result (writer.new.flushed ≡ true) }

@@ -1,19 +1,10 @@
-//! Why threads weigh nothing.
+//! Reasons why threads weigh nothing.
 use lot_engine::Settled;
 use lot_machine::{Name, TicketNumber, TicketRow};
+use lot_simulation::Lack;
 
-/// Why a Ready thread weighs nothing.
-#[derive(Debug, Drop)]
-pub enum Lack {
-    /// No ticket funds it.
-    Ticket,
-    /// No ticket funds this currency, from which its value would come.
-    Funding(Name),
-    /// It is funded, and its value rounds to 0.
-    Value,
-}
-
-/// Why the Ready thread with this name weighs nothing. From the thread up it follows one ticket each.
+/// The reason why the Ready thread with this name weighs nothing. From the thread up it follows one ticket at each
+/// step.
 pub(crate) fn lack_of(settled: Settled<'_>, thread: &Name) -> Lack {
     let Some(mut ticket) = backing(settled, thread) else {
         return Lack::Ticket;
@@ -31,8 +22,7 @@ pub(crate) fn lack_of(settled: Settled<'_>, thread: &Name) -> Lack {
     Lack::Value
 }
 
-/// A ticket that funds the thread or the currency with this name, if one does: one that is worth something if there
-/// is one.
+/// A ticket that funds the thread or the currency with this name, if one does, preferably one with a value above 0.
 fn backing(settled: Settled<'_>, name: &Name) -> Option<TicketRow> {
     let mut first: Option<TicketRow> = None;
     for place in 0..settled.kernel.ticket_count() {

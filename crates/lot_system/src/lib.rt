@@ -1,5 +1,5 @@
 //! The simulated system, and `play`, which makes the turns of a program and writes a line for each, the listings, and
-//! the report. It hands on the engine's `System` and what reads an input.
+//! the report. It re-exports the engine's `System` and the parser of inputs.
 //!
 //! Its tests stand in `lot_command_tests`.
 #![tactic(auto)]
@@ -7,7 +7,6 @@
 mod answers;
 mod ending;
 mod figures;
-mod first_few;
 mod form;
 mod inputs;
 mod lack;
@@ -29,17 +28,14 @@ mod warnings;
 
 pub use answers::{heading, printed_actor, put_answer, style_of};
 pub use ending::write_end;
-pub use first_few::FirstFew;
 pub use form::ReportForm;
 pub use inputs::{Played, play, play_bytes, refuse};
-pub use lack::Lack;
 pub use lines::play_program;
 pub use lot_engine::{Answer, Counts, Stack, System, TurnFault, Work, slice_for, slice_in};
 pub use lot_io::{IoFault as PlayFault, read_input};
 pub use playing::play_through;
-pub use refused_traps::RefusedTrap;
 pub use report::write_report;
 pub use reports::{end_play, note_last};
 pub use seeds::{Seeds, report_seeds};
 pub use summary::report_program;
-pub use warnings::{Owner, RefusedCommand, StuckThread, Warnings};
+pub use warnings::{note_end, note_turn};

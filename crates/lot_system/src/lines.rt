@@ -12,13 +12,14 @@ ghost use Rattle.lot_system.specs.Texts.{made_text, made_texts};
 ghost use Rattle.lot_playback.specs.Turns.{MadeTurn, program_turns};
 
 use crate::{
-    Played, Warnings, end_play, heading, play_through, printed_actor, put_answer, style_of,
+    Played, end_play, heading, note_turn, play_through, printed_actor, put_answer, style_of,
 };
 use lot_engine::System;
 use lot_io::{IoFault, Watched};
 use lot_playback::{Observer, Playback, Turn};
 use lot_print::{Page, write_ended};
 use lot_program::Program;
+use lot_simulation::Warnings;
 use std::alloc::Global;
 use std::io::Write;
 
@@ -96,7 +97,7 @@ fn put_made<W: Write>(
     if turn.has_ended {
         return write_ended(writer, page, heading(system, style, actor));
     }
-    warnings.note(system, turn);
+    note_turn(warnings, system, turn);
     put_answer(system, style, actor, &turn.event, &turn.reply, writer, page)
 }
 
@@ -144,7 +145,8 @@ fn write_play<W: Write>(
 }
 
 /// Plays the program in a system of its own: writes a line for each turn, and then the report. It stores the run's
-/// warnings in `warnings`, also whether a refusal ended it. It allocates all its memory before the first turn.
+/// warnings in `warnings`, and whether a refusal ended the run. It allocates all its memory before the first turn.
+/// Fails with `Memory` before it has written anything, and with `Write` if the writer fails.
 pub fn play_program<W: Write>(
     alloc: Global,
     program: &Program,

@@ -15,8 +15,8 @@ use lot_print::{write_currency, write_listing_line, write_thread, write_ticket};
 use lot_simulation::LineStyle;
 use std::io::Write;
 
-/// Writes the line of an actor's turn that requests a listing, and the listing of the kernel at present: the number
-/// of rows, and a line for each, in ascending order.
+/// Writes the line of an actor's turn that requests a listing, and then the kernel's listing: the number of rows, and a
+/// line for each, in ascending order.
 pub(crate) fn write_listing<W: Write>(
     settled: Settled<'_>,
     style: LineStyle,
@@ -49,7 +49,7 @@ fn count_rows(settled: Settled<'_>, kind: Kind) -> u32
     rows
 }
 
-/// How many numbers of this kind have been given.
+/// The count of numbers given to rows of this kind, those of removed ones included.
 fn given_count(settled: Settled<'_>, kind: Kind) -> u32
     ensures { result ≡ given_count settled.entry.kernel.now.state kind }
 {

@@ -6,8 +6,8 @@ ghost use Rattle.lot_playback.specs.Turns.{MadeTurn, program_turns};
 use lot_playback::{Observer, Playback, Turn};
 use lot_program::Program;
 
-/// Makes all turns of a program, none of which has been made, and lets the observer follow them. It stops when the
-/// observer does.
+/// Makes all turns of a program, from its first, and lets the observer follow them. If the observer stops the play, it
+/// fails with the observer's fault.
 #[inline(always)]
 pub fn play_through<O: Observer>(
     program: &Program,

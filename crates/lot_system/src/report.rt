@@ -108,7 +108,8 @@ fn write_total<W: Write>(system: &System, writer: &mut Watched<W>) -> Result<(),
     write_whole_total(writer, total)
 }
 
-/// Writes the report: a line for each thread, a line for each processor, and the totals.
+/// Writes the report: a line for each thread, a line for each processor, and the totals. Fails with `Write` if the
+/// writer fails.
 pub fn write_report<W: Write>(system: &mut System, writer: &mut Watched<W>) -> Result<(), IoFault>
     requires { writer.old.failed ≡ false }
     ensures same { system.new ≡ system.old }

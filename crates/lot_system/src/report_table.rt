@@ -12,16 +12,17 @@ ghost use Rattle.lot_system.specs.ReportTable.{currency_table, last_table, sched
 
 use crate::reports::note_ended;
 use crate::timed_currencies::write_currencies;
-use crate::{ReportForm, Warnings, report, timed_report};
+use crate::{ReportForm, report, timed_report};
 use lot_engine::System;
 use lot_io::{IoFault, Watched, flush};
 use lot_playback::{Order, Playback, Timekeeper};
 use lot_print::{Columns, write_header};
 use lot_program::Program;
+use lot_simulation::Warnings;
 use std::io::Write;
 
 /// Ends a play whose turns are all made: writes the table, flushes, and records the end of the system in the warnings,
-/// also if the writer failed.
+/// even if the writer failed.
 pub(crate) fn end_with_table<W: Write>(
     program: &Program,
     playback: Playback,
@@ -94,7 +95,7 @@ fn write_scheduled<W: Write>(system: &mut System, writer: &mut Watched<W>) -> Re
     report::write_threads(system.settle(), ReportForm::Table, writer)
 }
 
-/// Writes the table of a timed program: that of its currencies if the form says so, and otherwise that of its threads.
+/// Writes the table of a timed program: of its currencies if the form says so, otherwise of its threads.
 fn write_in_form<W: Write>(
     system: &mut System,
     timekeeper: &Timekeeper,

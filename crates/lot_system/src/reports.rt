@@ -7,18 +7,18 @@ ghost use Rattle.lot_playback.specs.Stages.{turns_left};
 ghost use Rattle.lot_system.specs.Leaving.{early_in, ends_refused, stopped_in};
 ghost use Rattle.lot_system.specs.Texts.{last_report};
 
-use crate::Warnings;
+use crate::note_end;
 use crate::report::write_report;
 use crate::timed_report::{early_end, write_timed_report};
 use lot_engine::System;
 use lot_io::{IoFault, Watched, flush};
 use lot_playback::{Order, Playback, Timekeeper};
 use lot_program::Program;
-use lot_simulation::EarlyEnd;
+use lot_simulation::{EarlyEnd, Warnings};
 use std::io::Write;
 
-/// Ends a play whose turns are all made: writes the report, flushes, and records the end of the system in the
-/// warnings, also if the writer failed.
+/// Ends a play whose turns are all made: writes the report, flushes, and records the end of the system in the warnings,
+/// even if the writer failed. Fails with `Write` if the writer fails.
 pub fn end_play<W: Write>(
     program: &Program,
     playback: Playback,
@@ -57,7 +57,7 @@ fn write_flushed<W: Write>(
     flush(writer)
 }
 
-/// Records the end of a play in its warnings, as `note_last` does, and lets go of the play.
+/// Records the end of a play in its warnings, like `note_last`, and frees the play.
 pub(crate) fn note_ended(
     program: &Program,
     mut system: System,
@@ -71,8 +71,8 @@ pub(crate) fn note_ended(
     note_last(program, &mut system, &order, warnings);
 }
 
-/// Records the end of a play in its warnings: the state of its system; if it is timed and ended before its time, how;
-/// and whether a refusal ended it. It allocates no memory.
+/// Records the end of a play in its warnings: the state of its system, its early end, if it is timed and has one, and
+/// whether a refusal ended it. It allocates nothing.
 pub fn note_last(program: &Program, system: &mut System, order: &Order, warnings: &mut Warnings)
     requires program { system.old.setting.program ≡ program.now }
     requires order { IsInOrder system.old order.now }
@@ -84,12 +84,12 @@ pub fn note_last(program: &Program, system: &mut System, order: &Order, warnings
     ensures stopped { warnings.new.stopped
         ≡ (warnings.old.stopped || stopped_in program.now system.old order.now) }
 {
-    warnings.note_end(system);
+    note_end(warnings, system);
     warnings.early = early_end_of(program, system, order);
     warnings.stopped |= is_stopped(program, system, order);
 }
 
-/// How the play ended before its time, if it is timed and did.
+/// The early end of the play, if it is timed and has one.
 fn early_end_of(program: &Program, system: &System, order: &Order) -> Option<EarlyEnd>
     requires program { system.now.setting.program ≡ program.now }
     requires order { IsInOrder system.now order.now }
@@ -101,7 +101,7 @@ fn early_end_of(program: &Program, system: &System, order: &Order) -> Option<Ear
     }
 }
 
-/// Whether a refusal ended the play, as it does if the program is strict.
+/// Whether a refusal ended the play, as one does in a strict program.
 fn is_stopped(program: &Program, system: &System, order: &Order) -> bool
     ensures { result ≡ stopped_in program.now system.now order.now }
 {

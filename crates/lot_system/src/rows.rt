@@ -5,7 +5,8 @@ ghost use Rattle.lot_system.specs.Seeds.{end_time, made_time, no_spans, no_sprea
 ghost use Rattle.lot_system.specs.Seeds.{spread_after, spread_with, table_of, waits_with};
 ghost use Rattle.lot_system.specs.declared.form.ReportForm.TheVariants.{CurrencyTable, Lines, Table};
 
-/// A figure of 5, followed by one of 3. The least of one play is its figure. A play without the figure changes nothing.
+/// A figure of 5, followed by one of 3. The least over one play is its figure. A play without the figure changes
+/// nothing.
 pub fn spreads()
     ensures one { spread_with no_spread 5 ≡ record { plays = 1; sum = 5; least = 5; most = 5 } }
     ensures two { spread_with (spread_with no_spread 5) 3 ≡ record { plays = 2; sum = 8; least = 3; most = 5 } }
@@ -60,7 +61,7 @@ pub fn lives()
     }) ≡ Some 9 }
 {}
 
-/// The seeds from 2 to 4, and from 4 to 2; and the tables of a timed program and of another.
+/// The seeds from 2 to 4, and from 4 to 2; and the tables of a timed program and of another program.
 pub fn reports()
     ensures seeds { seeds_between 2 4 ≡ 2 ∷ 3 ∷ 4 ∷ [] }
     ensures first { seeds_between 4 2 ≡ 4 ∷ [] }

@@ -15,7 +15,7 @@ ghost use Rattle.lot_print.specs.declared.figures.Subject.TheVariants as subject
 use crate::figures::{AllFigures, add_play};
 use crate::reports::note_ended;
 use crate::summary::note_turns;
-use crate::{Played, ReportForm, Warnings};
+use crate::{Played, ReportForm};
 use lot_io::{IoFault, Watched, flush};
 use lot_playback::Playback;
 use lot_print::{
@@ -23,19 +23,20 @@ use lot_print::{
     write_figures_record, write_header, write_processor_figures, write_seeds, write_whole_figures,
 };
 use lot_program::{Program, Seed};
+use lot_simulation::Warnings;
 use std::alloc::{AllocError, Global};
 use std::io::Write;
 
-/// The seeds from a first to a last one, or the first alone if the last is below it.
+/// The seeds from `first` to `last`, or `first` alone if `last` is below it.
 #[derive(Clone, Copy, Debug)]
 pub struct Seeds {
     pub first: Seed,
     pub last: Seed,
 }
 
-/// Plays the program once with each of these seeds, and writes the mean, the least and the most of each figure that the
-/// plays' reports tell, in this form. It stores the warnings of the first play in `warnings`, and whether a refusal
-/// ended any of the plays. If out of memory, it writes nothing.
+/// Plays the program once with each of these seeds, and writes the mean, the least and the most of each figure of the
+/// reports, in this form. It stores the warnings of the first play in `warnings`, and whether a refusal ended any play.
+/// Fails with `Memory` before it has written anything, and with `Write` if the writer fails.
 pub fn report_seeds<W: Write>(
     alloc: Global,
     program: &Program,
@@ -59,7 +60,7 @@ pub fn report_seeds<W: Write>(
 }
 
 /// The figures over a play with each of these seeds. It stores the warnings of the first play in `warnings`, and
-/// whether a refusal ended any of the plays.
+/// whether a refusal ended any play.
 fn figures_of(
     alloc: Global,
     program: &Program,
@@ -75,8 +76,8 @@ fn figures_of(
     Ok(all)
 }
 
-/// Plays the program once with each of these seeds, and adds the figures at the end of each play to those of no plays.
-/// It stores the warnings of the first play in `warnings`, and whether a refusal ended any of the plays.
+/// Plays the program once with each of these seeds, and adds the figures at the end of each play to `all`. It stores
+/// the warnings of the first play in `warnings`, and whether a refusal ended any play.
 fn play_each(
     alloc: Global,
     program: &Program,
@@ -97,8 +98,8 @@ fn play_each(
     Ok(())
 }
 
-/// Plays the program once with each of these seeds after the first, and adds the figures to those of the first play.
-/// It stores in `warnings`, which say of no refusal yet, whether one ended any of these plays.
+/// Plays the program once with each of these seeds after the first, and adds the figures to those of the first play. It
+/// stores in `warnings`, which have no refusal yet, whether one ended any of these plays.
 fn play_others(
     alloc: Global,
     program: &Program,
@@ -149,7 +150,7 @@ fn seeded(alloc: Global, program: &Program, seed: Seed) -> Result<Program, Alloc
     program.copied(alloc)?.with_seed(alloc, Some(seed))
 }
 
-/// Plays the program with the seed that it has, and adds the figures at the end of the play.
+/// Plays the program with its own seed, and adds the figures at the end of the play.
 fn play_seeded(
     alloc: Global,
     program: &Program,
@@ -167,7 +168,7 @@ fn play_seeded(
     Ok(())
 }
 
-/// Makes the program's turns, none of which has been made, and adds the figures at their end.
+/// Makes the program's turns, from its first, and adds the figures at their end.
 fn add_playback(
     program: &Program,
     mut playback: Playback,
@@ -188,7 +189,7 @@ fn add_playback(
     note_ended(program, system, order, warnings);
 }
 
-/// The table in this form of the program, or none for lines.
+/// The table of the program in this form, or `None` for lines.
 fn table_of(form: ReportForm, program: &Program) -> Option<FiguresTable>
     ensures { result ≡ seeds_specs.table_of form program.now.duration }
 {
@@ -310,7 +311,7 @@ fn write_processors<W: Write>(
     Ok(())
 }
 
-/// Writes the line of this processor, if the plays tell of it; tables have none.
+/// Writes the line of this processor, if the plays have its figures; tables have none.
 fn write_processor<W: Write>(
     number: u32,
     figures: &ProcessorFigures,
@@ -326,7 +327,7 @@ fn write_processor<W: Write>(
     write_processor_figures(writer, number, figures)
 }
 
-/// Writes the last lines, if the plays tell of them; tables have none.
+/// Writes the last lines, if the plays have their figures; tables have none.
 fn write_whole<W: Write>(
     figures: &WholeFigures,
     table: Option<FiguresTable>,
@@ -341,7 +342,7 @@ fn write_whole<W: Write>(
     write_whole_figures(writer, figures)
 }
 
-/// How many threads, or currencies, the program may have at once.
+/// The largest number of threads, or of currencies, that the program may have at once.
 fn count_of(subject: Subject, program: &Program) -> u32
     ensures { result ≡ seeds_specs.count_of subject program.now }
 {
@@ -373,8 +374,7 @@ fn write_subjects<W: Write>(
     Ok(())
 }
 
-/// Writes the lines of the thread or the currency with this number, or its row, if a play ended with it and the table
-/// has one.
+/// Writes the lines or the row of the thread or the currency with this number, if a play ended with it.
 fn write_subject<W: Write>(
     subject: Subject,
     number: u32,

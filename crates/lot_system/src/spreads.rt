@@ -1,4 +1,4 @@
-//! Single figures over several plays.
+//! Figures over several plays, one at a time.
 ghost use Rattle.std.specs.Prelude.{◌≡◌, ◌*◌, ◌<◌, ◌^◌};
 ghost use Rattle.lot_simulation.specs.TimedReport.{tick_parts};
 ghost use Rattle.lot_system.specs.Seeds as seeds;
@@ -6,7 +6,7 @@ ghost use Rattle.lot_system.specs.Seeds as seeds;
 use lot_print::{SpanFigures, Spread};
 use lot_simulation::{PastLives, Spans, TICK_PARTS};
 
-/// The spread of no plays.
+/// The spread over no plays.
 pub(crate) const NO_SPREAD: Spread = Spread {
     plays: 0,
     sum: 0,
@@ -14,14 +14,14 @@ pub(crate) const NO_SPREAD: Spread = Spread {
     most: 0,
 };
 
-/// No spans of time in any play.
+/// The figures of spans over no plays.
 pub(crate) const NO_SPANS: SpanFigures = SpanFigures {
     count: NO_SPREAD,
     mean: NO_SPREAD,
     longest: NO_SPREAD,
 };
 
-/// The spread over one more play, which has this figure.
+/// The spread with this figure of one more play.
 pub(crate) fn spread_with(spread: Spread, figure: u128) -> Spread
     ensures { result ≡ seeds.spread_with spread figure }
 {
@@ -37,7 +37,7 @@ pub(crate) fn spread_with(spread: Spread, figure: u128) -> Spread
     }
 }
 
-/// The spread over one more play, which may lack the figure.
+/// The spread with this figure of one more play, which may lack it.
 pub(crate) fn spread_after(spread: Spread, figure: Option<u32>) -> Spread
     ensures { result ≡ seeds.spread_after spread figure }
 {
@@ -57,7 +57,7 @@ pub(crate) fn percent_of(part: u64, whole: u128) -> u128
     u128::from(part) * 100000 / whole
 }
 
-/// These parts of a tick as a part of this time, in thousandths of a percent. The product with 100000 could overflow,
+/// This share of a time, in thousandths of a percent, given in parts of a tick. The product with 100000 could overflow,
 /// so it divides twice.
 pub(crate) fn due_percent(due: u128, time: u64) -> u128
     requires due { due < 2 ^ 121 }
@@ -73,7 +73,7 @@ pub(crate) fn due_percent(due: u128, time: u64) -> u128
     percent * 1000 + rest * 1000 / whole
 }
 
-/// A thread's waits of one kind over one more play, which had these.
+/// A thread's waits of one kind, with those of one more play.
 pub(crate) fn waits_with(figures: SpanFigures, waits: Spans) -> SpanFigures
     ensures { result ≡ seeds.waits_with figures waits }
 {
@@ -85,7 +85,7 @@ pub(crate) fn waits_with(figures: SpanFigures, waits: Spans) -> SpanFigures
     spans_with(figures, spans)
 }
 
-/// Spans over one more play, which had these.
+/// Spans of time, with those of one more play.
 pub(crate) fn spans_with(figures: SpanFigures, spans: PastLives) -> SpanFigures
     requires { spans.total < 2 ^ 118 }
     ensures { result ≡ seeds.spans_with figures spans }

@@ -9,11 +9,12 @@ ghost use Rattle.lot_playback.specs.Stages.{HasMade, turns_left};
 ghost use Rattle.lot_playback.specs.Turns.{program_turns};
 
 use crate::report_table::end_with_table;
-use crate::{Played, ReportForm, Warnings, end_play, play_through};
+use crate::{Played, ReportForm, end_play, note_turn, play_through};
 use lot_engine::System;
 use lot_io::{IoFault, Watched};
 use lot_playback::{Observer, Playback, Turn};
 use lot_program::Program;
+use lot_simulation::Warnings;
 use std::alloc::Global;
 use std::io::Write;
 
@@ -46,13 +47,13 @@ impl<'a> Observer for Noting<'a> {
         turn: &Turn,
     ) -> Result<(), IoFault> {
         if !turn.has_ended {
-            self.warnings.note(system, turn);
+            note_turn(self.warnings, system, turn);
         }
         Ok(())
     }
 }
 
-/// Makes all turns of a program, none of which has been made, and records their warnings.
+/// Makes all turns of a program, from its first, and records their warnings.
 pub(crate) fn note_turns(program: &Program, playback: &mut Playback, warnings: &mut Warnings)
     requires none { playback.old.made ≡ 0 }
     requires made { HasMade program.now [] playback.old.seen }
@@ -69,7 +70,8 @@ pub(crate) fn note_turns(program: &Program, playback: &mut Playback, warnings: &
 }
 
 /// Makes the program's turns in a system of its own, and writes the report alone, in this form. It stores the run's
-/// warnings in `warnings`. It allocates all its memory before the first turn.
+/// warnings in `warnings`. It allocates all its memory before the first turn. Fails with `Memory` before it has written
+/// anything, and with `Write` if the writer fails.
 pub fn report_program<W: Write>(
     alloc: Global,
     program: &Program,

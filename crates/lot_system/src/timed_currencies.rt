@@ -65,7 +65,7 @@ fn write_currency<W: Write>(
     }
 }
 
-/// What the report tells of the currency with this number.
+/// The fields of the currency with this number in the report.
 pub(crate) fn shares_of(system: &System, timekeeper: &Timekeeper, currency: u32) -> CurrencyShares
     requires end { IsAtEnd system.now timekeeper.now }
     requires there { IsBetween 1 system.now.setting.program.limits.currencies currency }

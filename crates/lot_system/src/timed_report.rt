@@ -30,8 +30,9 @@ use lot_program::Program;
 use lot_simulation::{EarlyEnd, PastLives, Spans};
 use std::io::Write;
 
-/// Writes the report of a system that has made all of its timed program's turns: a line for each thread, for each
-/// currency and for each processor, the totals, and, if another turn would follow, the line that says so.
+/// Writes the report of a system that has made all of its timed program's turns: a line for each thread, each currency
+/// and each processor, the totals, and after an early end the line that says so. Fails with `Write` if the writer
+/// fails.
 pub fn write_timed_report<W: Write>(
     program: &Program,
     system: &mut System,
@@ -48,8 +49,8 @@ pub fn write_timed_report<W: Write>(
     write_early(early_end(program, system, timekeeper), writer)
 }
 
-/// How the play ended before its time, if it did: there was no more room for turns, or a refusal ended it, and another
-/// turn would follow.
+/// The early end of the play, if it has one: another turn would follow, but the limit on turns is reached, or a refusal
+/// ended the play.
 pub(crate) fn early_end(
     program: &Program,
     system: &System,
@@ -102,8 +103,7 @@ fn write_lines<W: Write>(
     write_total(system, timekeeper, writer)
 }
 
-/// The time at which the play ended: the end that the input gives, or the last turn's time if another turn would
-/// follow.
+/// The time at which the play ended: the end that the input gives, or after an early end the last turn's time.
 pub(crate) fn ended_at(program: &Program, system: &System, timekeeper: &Timekeeper) -> u32
     requires program { system.now.setting.program ≡ program.now }
     requires end { IsAtEnd system.now timekeeper.now }
@@ -167,7 +167,7 @@ fn write_thread<W: Write>(
     }
 }
 
-/// What the report tells of the thread, in addition to its row.
+/// The fields that the report adds to the thread's row.
 pub(crate) fn shares_of(
     system: &mut System,
     timekeeper: &Timekeeper,
@@ -237,7 +237,7 @@ fn write_processor<W: Write>(
     write_timed_processor_total(writer, processor_total(system, timekeeper, end, processor))
 }
 
-/// What the report tells of the processor, up to this end.
+/// The fields of the processor in the report, up to this end.
 pub(crate) fn processor_total(
     system: &System,
     timekeeper: &Timekeeper,
@@ -274,7 +274,7 @@ fn write_total<W: Write>(
     write_timed_whole_total(writer, whole_total(system, timekeeper))
 }
 
-/// What the report tells of all actors.
+/// The fields of all actors in the report.
 pub(crate) fn whole_total(system: &System, timekeeper: &Timekeeper) -> TimedWholeTotal
     requires end { IsAtEnd system.now timekeeper.now }
     ensures total { result
@@ -310,7 +310,7 @@ fn past_lives(system: &System, timekeeper: &Timekeeper) -> PastLives
     lives
 }
 
-/// Past lives with those of one number as well.
+/// Past lives together with those of one number.
 fn with_lives(lives: PastLives, spans: Spans) -> PastLives
     requires { (lives.count < 2 ^ 63) × (lives.total < 2 ^ 127) }
     ensures added { result ≡ reports.with_lives lives spans }

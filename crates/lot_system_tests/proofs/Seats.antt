@@ -1,4 +1,4 @@
--- Seats in a list, taken out one after another.
+-- Seats in a list, taken out one by one.
 use Rattle.std.proofs.Common.{◌≡◌, suc, ◌<◌, List, [], ◌∷◌, length, drop, get_or, sym, subst, arith}
 use Rattle.std.specs.Prelude.{All}
 use Rattle.lot_station.specs.BatonSeats.{Seat, Baton, IsSeatOf}

@@ -49,7 +49,6 @@ fundx 5 base c cli
 schedule 0 0 1 1 1 1 1 1 1 1 1 1
 ";
 
-/// The program that the input says.
 fn parsed(rt: &impl Abort, alloc: Global, input: &str) -> Program {
     parse(alloc, input.as_bytes()).expect(rt, "a program")
 }

@@ -1,4 +1,4 @@
--- What a function that reads has read.
+-- The result of a parsing function.
 use Rattle.lot_text.proofs.Common.{BadLine, Err, Fails, Gives, IfErr, InputFault, InputRefusal, IsErr, IsErrAnd, IsFaultOf, LineFault, List, MatchResult, Memory, Ok, ParseFault, Refused, Result, append_assoc, each, each_pair, false≢true, length, refl, ℕ, [], ◌++◌, ◌>>=◌, ◌∷◌, ◌≡◌, ◌≢◌}
 use Rattle.lot_text.specs.declared.fault.ParseFault.TheVariants as parse_fault
 

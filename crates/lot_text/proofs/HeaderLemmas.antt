@@ -1,4 +1,4 @@
--- Header lines, by whether they come too late.
+-- Header lines, late and not.
 use Rattle.lot_text.proofs.Common.{Fails, HeaderWord, LineFault, List, None, Ok, Option, Reading, Some, arith, false, header_in_order, header_line, header_place, is_after_seed, is_given, is_late, is_some, leb-false, nat_le, or_parts, refl, true≢false, with_header_word, ℕ, ◌<◌, ◌||◌, ◌≡◌}
 use Rattle.lot_simulation.specs.declared.input.HeaderWord.TheVariants as header
 use Rattle.lot_text.proofs.FaultLemmas.{Fails-then}

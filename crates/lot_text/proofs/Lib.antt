@@ -1,4 +1,5 @@
 pub mod Common
+pub mod CommandLemmas
 pub mod FaultLemmas
 pub mod FirstLine
 pub mod HeaderLemmas
@@ -8,6 +9,5 @@ pub mod PhraseLemmas
 pub mod ReadingLemmas
 pub mod RunLemmas
 pub mod ScriptLemmas
-pub mod TicketLemmas
 pub mod TokenLemmas
 pub mod Lemmas

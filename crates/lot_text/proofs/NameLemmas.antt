@@ -1,12 +1,12 @@
 -- Lines that give a name to a port, a mutex, a script or a ticket.
 use Rattle.lot_text.proofs.Common.{Bool, Command, Err, InputRefusal, List, Ok, Reading, Result, Some, TooLong, add_named, add_naming, after_header, body_after_header, body_place, checked, false, le-leb, length, lt-leb, nat_le, new_name, new_name_alone, refl, script_names, true, ℕ, [], ◌++◌, ◌<◌, ◌>>=◌, ◌∷◌, ◌≡◌, ◌≤◌}
 use Rattle.lot_simulation.specs.declared.input.BodyWord.TheVariants as body
+use Rattle.lot_simulation.specs.Reading.{only_token}
 
 -- a line that names a port is read by its only token
 pub port-line : (n : ℕ) (r : Reading) (tokens : List (List ℕ))
     → body_after_header n r body.Port tokens ≡ (new_name_alone 256 r.ports tokens >>= λ name. Ok (record r { place = body_place; ports = r.ports ++ name ∷ [] }))
-port-line n r [] = refl
-port-line n r (token ∷ []) = at (new_name r.ports token) (nat_le 256 (length r.ports))
+port-line n r tokens = at (only_token (new_name r.ports) tokens) (nat_le 256 (length r.ports))
   where
     at : (name : Result (List ℕ) InputRefusal) (full : Bool)
         → ((name >>= λ name. checked ((full, TooLong) ∷ []) (record r { ports = r.ports ++ name ∷ [] })) >>= λ after. Ok (record after { place = body_place }))
@@ -14,13 +14,11 @@ port-line n r (token ∷ []) = at (new_name r.ports token) (nat_le 256 (length r
     at (Err refusal) full = refl
     at (Ok name) true = refl
     at (Ok name) false = refl
-port-line n r (token ∷ other ∷ tokens) = refl
 
 -- a line that names a mutex is read by its only token
 pub mutex-line : (n : ℕ) (r : Reading) (tokens : List (List ℕ))
     → body_after_header n r body.Mutex tokens ≡ (new_name_alone 256 r.mutexes tokens >>= λ name. Ok (record r { place = body_place; mutexes = r.mutexes ++ name ∷ [] }))
-mutex-line n r [] = refl
-mutex-line n r (token ∷ []) = at (new_name r.mutexes token) (nat_le 256 (length r.mutexes))
+mutex-line n r tokens = at (only_token (new_name r.mutexes) tokens) (nat_le 256 (length r.mutexes))
   where
     at : (name : Result (List ℕ) InputRefusal) (full : Bool)
         → ((name >>= λ name. checked ((full, TooLong) ∷ []) (record r { mutexes = r.mutexes ++ name ∷ [] })) >>= λ after. Ok (record after { place = body_place }))
@@ -28,7 +26,6 @@ mutex-line n r (token ∷ []) = at (new_name r.mutexes token) (nat_le 256 (lengt
     at (Err refusal) full = refl
     at (Ok name) true = refl
     at (Ok name) false = refl
-mutex-line n r (token ∷ other ∷ tokens) = refl
 
 -- the name of a script is refused
 pub script-refused : (n : ℕ) (before r : Reading) (token : List ℕ) (names : List (List ℕ)) (refusal : InputRefusal) → before ≡ r → names ≡ script_names before

@@ -1,6 +1,7 @@
 -- States of reading stay within the bounds of an input.
 use Rattle.lot_text.proofs.Common.{All, All-append, All-push, All-same, Bool, Command, Err, IsBetween, IsBody, IsNonDecreasing, IsReading, IsTrue, List, NamedScript, None, Ok, OpenScript, Option, Reading, Some, TooLong, add_naming, after_header, ap, append-nil, arith, body_place, common_steps, false, header_line, le-leb, length, length-append, lt-leb, nat_lt, number_between, refl, rules, sym, true≢false, ℕ, [], ◌++◌, ◌+◌, ◌<◌, ◌∙◌, ◌∷◌, ◌≡◌, ◌≤◌}
 use Rattle.lot_simulation.specs.declared.input.HeaderWord.TheVariants as header
+use Rattle.lot_simulation.specs.declared.input.Options.{Options}
 
 -- the body comes after the header
 past-header : body_place ≡ 0 → ⊥
@@ -93,10 +94,10 @@ with_limits r tickets currencies threads read first second third = record {
   times = read.times;
 }
 
--- a quantum or turns are read, or numbers are given again, or refusals end the play
-pub with_settings : (r : Reading) (quantum turns : ℕ) (reuse strict : Bool) → IsReading r → IsBetween 1 1000 quantum → turns ≤ 10000
-    → IsReading (record r { quantum = quantum; turns = turns; reuse = reuse; strict = strict })
-with_settings r quantum turns reuse strict read first second = record {
+-- a quantum or turns are read
+pub with_settings : (r : Reading) (quantum turns : ℕ) → IsReading r → IsBetween 1 1000 quantum → turns ≤ 10000
+    → IsReading (record r { quantum = quantum; turns = turns })
+with_settings r quantum turns read first second = record {
   sizes = record {
     processor_count = read.sizes.processor_count;
     quantum_length = first;
@@ -111,9 +112,9 @@ with_settings r quantum turns reuse strict read first second = record {
   times = read.times;
 }
 
--- mechanisms are left out
-pub with_without : (r : Reading) (compensation lending : Bool) → IsReading r → IsReading (record r { without_compensation = compensation; without_lending = lending })
-with_without r compensation lending read = record {
+-- options are chosen
+pub with_options : (r : Reading) (options : Options) → IsReading r → IsReading (record r { options = options })
+with_options r options read = record {
   sizes = read.sizes;
   names = read.names;
   body = read.body;

@@ -1,4 +1,4 @@
--- Numbers of 64 bits.
+-- 64-bit numbers.
 use Rattle.std.specs.Prelude.{ℕ, ◌-◌, ◌^◌, nat_le, Option}
 use Rattle.std.specs.Bool.{then_some}
 

@@ -1,19 +1,19 @@
 -- The invariant of every state of reading an input.
-use Rattle.std.specs.Prelude.{◌≡◌, ℕ, ◌<◌, ◌≤◌, Bool, Option, None, Result, Ok, Err, List, [], ◌∷◌, length, take, All, IsSome, IsTrue, Some, if◌then◌else◌}
+use Rattle.std.specs.Prelude.{◌≡◌, ℕ, ◌<◌, ◌≤◌, Bool, Option, Result, Ok, Err, List, [], ◌∷◌, length, take, All, IsSome, IsTrue, Some, if◌then◌else◌}
 use Rattle.std.specs.List.Sorted.{IsNonDecreasing}
 use Rattle.std.specs.Option.{ForSome}
 use Rattle.lot_simulation.specs.declared.input.InputRefusal.{InputRefusal}
-use Rattle.lot_simulation.specs.declared.input.InputRefusal.TheVariants.{BadLine, TooLong}
+use Rattle.lot_simulation.specs.declared.input.InputRefusal.TheVariants.{TooLong}
 use Rattle.lot_machine.specs.declared.command.Command.{Command}
 use Rattle.lot_simulation.specs.declared.script.ScriptLine.{ScriptLine}
 use Rattle.lot_machine.specs.Bounds.{IsBetween}
-use Rattle.lot_simulation.specs.Grammar.{Phrase, add_command, add_named, add_runs, is_alone, is_full, names_ticket, run_of, with_line}
+use Rattle.lot_simulation.specs.Grammar.{Phrase, add_runs, is_alone, is_full, run_of, with_line}
 use Rattle.lot_simulation.specs.Reading.{Reading, NamedScript, OpenScript, ◌>>=◌, checked, each_pair}
 use Rattle.lot_simulation.specs.Words.{body_place}
 use Rattle.lot_script.specs.Drafts.{loops_after}
 use Rattle.lot_program.specs.Parts.{AreSeeds}
 
--- the numbers of the header are within their bounds; its seeds, if it has any, are one for each processor
+-- the numbers of the header are within their bounds, and its seeds, if it has any, are one for each processor
 pub record AreSizes (processors quantum turns tickets currencies threads : ℕ) (seeds : Option (List ℕ)) : Type 0 where
   pub processor_count : IsBetween 1 64 processors
   pub quantum_length : IsBetween 1 1000 quantum
@@ -23,7 +23,7 @@ pub record AreSizes (processors quantum turns tickets currencies threads : ℕ) 
   pub thread_count : IsBetween 1 4096 threads
   pub seeding : ForSome seeds (AreSeeds processors)
 
--- there are no more names than are allowed, and there is room for the open script
+-- names are within their limits, and so is the open script
 pub record AreNames (ports mutexes ticket_names : List (List ℕ)) (scripts : List NamedScript) (unclosed : Option OpenScript)
     : Type 0 where
   pub port_count : length ports ≤ 256
@@ -79,14 +79,3 @@ line_added r s l = checked ((is_full s, TooLong) ∷ []) (within_script r (recor
 -- the reading after the schedule gets each pair of tokens as a run
 abbrev pub pairs_added : Reading → List (List ℕ) → Result Reading InputRefusal
 pairs_added r tokens = each_pair (run_of r.processors) tokens >>= λ runs. add_runs r runs
-
--- the name of a new ticket in the tokens at the end of a line, if they are `as` and a name
-abbrev pub name_at_end : Reading → List (List ℕ) → Result (Option (List ℕ)) InputRefusal
-name_at_end r [] = Ok None
-name_at_end r (word ∷ token ∷ []) = if names_ticket r word then Ok (Some token) else Err BadLine
-name_at_end r other = Err BadLine
-
--- the reading after a command that makes a ticket, with this name if there is one
-abbrev pub ticket_added : Reading → Option (List ℕ) → Command → Result Reading InputRefusal
-ticket_added r None c = add_command r c
-ticket_added r (Some token) c = add_named r token c

@@ -2,18 +2,17 @@
 ghost use Rattle.std.specs.Prelude.{◌≡◌, ℕ, ◌≤◌, All, IfOk, MatchResult, Ok};
 ghost use Rattle.lot_simulation.specs.Grammar.{body_after_header, script_names};
 ghost use Rattle.lot_simulation.specs.Reading.{actor_below as actor_read, each, new_name as new_name_read};
-ghost use Rattle.lot_simulation.specs.Reading.{script_number as script_number_read};
 ghost use Rattle.lot_text.specs.Faults.{Fails, Gives};
 ghost use Rattle.lot_text.specs.Readings.{after_header, pairs_added};
 
+use crate::commands::command_line;
 use crate::fault::LineFault;
 use crate::name::{any_name, only_new_name};
-use crate::number::{actor_below, any_number, number_in};
+use crate::number::{actor_below, number_in};
 use crate::reading::{BODY, MOST_ENTRIES, OpenScript, Reading};
 use crate::runs::read_runs;
-use crate::ticket::{any_ticket, name_at_end, ticket_name, ticket_number};
 use crate::tokens::Tokens;
-use lot_machine::{Command, CurrencyRef, Kind, Name, Sizes, TargetRef, ThreadRef, is_good_name};
+use lot_machine::{Name, Sizes, is_good_name};
 use lot_script::ScriptBuilder;
 use lot_simulation::{BodyWord, InputRefusal, Range, ranges};
 use std::alloc::Global;
@@ -32,20 +31,7 @@ pub(crate) fn body_line(
         BodyWord::Port => port(reading, tokens),
         BodyWord::Mutex => mutex(reading, tokens),
         BodyWord::Script => open_script(alloc, number, reading, tokens),
-        BodyWord::MakeTicket => make_ticket(reading, tokens),
-        BodyWord::RemoveTicket => remove_ticket(reading, tokens),
-        BodyWord::MakeCurrency => make_currency(reading, tokens),
-        BodyWord::RemoveCurrency => remove_currency(reading, tokens),
-        BodyWord::Fund => fund(reading, tokens),
-        BodyWord::Unfund => unfund(reading, tokens),
-        BodyWord::SetTicket => set_ticket(reading, tokens),
-        BodyWord::RemoveThread => remove_thread(reading, tokens),
-        BodyWord::Kill => kill(reading, tokens),
-        BodyWord::MakeThread => make_thread(reading, tokens),
-        BodyWord::MakeFunded => make_funded(reading, tokens),
-        BodyWord::ListTickets => list_tickets(reading, tokens),
-        BodyWord::ListCurrencies => list_currencies(reading, tokens),
-        BodyWord::ListThreads => list_threads(reading, tokens),
+        BodyWord::Command(verb) => command_line(reading, verb, tokens),
         BodyWord::Schedule => schedule(alloc, reading, tokens),
         BodyWord::Runs => runs(alloc, reading, tokens),
         BodyWord::At => at(reading, tokens),
@@ -106,170 +92,6 @@ fn new_script_name(reading: &Reading, token: &[u8]) -> Result<Name, InputRefusal
         return Err(InputRefusal::BadLine);
     }
     Ok(name)
-}
-
-/// `mktkt AMOUNT CURRENCY`, and in an input of `lottery 3` with `as TICKET` or without
-fn make_ticket(reading: &mut Reading, mut tokens: Tokens<'_>) -> Result<(), LineFault>
-    ensures { (n : ℕ) → Gives reading.new result (body_after_header n reading.old BodyWord.MakeTicket tokens.entry) }
-{
-    let amount = tokens.expected()?;
-    let currency = tokens.expected()?;
-    let ticket = name_at_end(reading, tokens)?;
-    let amount = any_number(amount)?;
-    let currency = CurrencyRef::Named(any_name(currency)?);
-    reading.add_ticket(ticket, Command::MakeTicket { amount, currency })
-}
-
-/// `rmtkt TICKET`
-fn remove_ticket(reading: &mut Reading, tokens: Tokens<'_>) -> Result<(), LineFault>
-    ensures { (n : ℕ) → Gives reading.new result (body_after_header n reading.old BodyWord.RemoveTicket tokens.entry) }
-{
-    let ticket = tokens.only()?;
-    let given = any_ticket(reading, ticket)?;
-    let ticket = ticket_number(given);
-    reading.add_naming(ticket_name(given), Command::RemoveTicket { ticket })
-}
-
-/// `mkcur NAME`
-fn make_currency(reading: &mut Reading, tokens: Tokens<'_>) -> Result<(), LineFault>
-    ensures { (n : ℕ) → Gives reading.new result (body_after_header n reading.old BodyWord.MakeCurrency tokens.entry) }
-{
-    let name = tokens.only()?;
-    let name = any_name(name)?;
-    reading.add_command(Command::MakeCurrency { name })
-}
-
-/// `rmcur CURRENCY`
-fn remove_currency(reading: &mut Reading, tokens: Tokens<'_>) -> Result<(), LineFault>
-    ensures { (n : ℕ)
-        → Gives reading.new result (body_after_header n reading.old BodyWord.RemoveCurrency tokens.entry) }
-{
-    let currency = tokens.only()?;
-    let currency = CurrencyRef::Named(any_name(currency)?);
-    reading.add_command(Command::RemoveCurrency { currency })
-}
-
-/// `fund TICKET TARGET`
-fn fund(reading: &mut Reading, mut tokens: Tokens<'_>) -> Result<(), LineFault>
-    ensures { (n : ℕ) → Gives reading.new result (body_after_header n reading.old BodyWord.Fund tokens.entry) }
-{
-    let ticket = tokens.expected()?;
-    let target = tokens.only()?;
-    let given = any_ticket(reading, ticket)?;
-    let ticket = ticket_number(given);
-    let target = TargetRef::Named(any_name(target)?);
-    reading.add_naming(ticket_name(given), Command::Fund { ticket, target })
-}
-
-/// `unfund TICKET`
-fn unfund(reading: &mut Reading, tokens: Tokens<'_>) -> Result<(), LineFault>
-    ensures { (n : ℕ) → Gives reading.new result (body_after_header n reading.old BodyWord.Unfund tokens.entry) }
-{
-    let ticket = tokens.only()?;
-    let given = any_ticket(reading, ticket)?;
-    let ticket = ticket_number(given);
-    reading.add_naming(ticket_name(given), Command::Unfund { ticket })
-}
-
-/// `rmthr THREAD`, in an input of `lottery 3`
-fn remove_thread(reading: &mut Reading, mut tokens: Tokens<'_>) -> Result<(), LineFault>
-    ensures { (n : ℕ)
-        → Gives reading.new result (body_after_header n reading.old BodyWord.RemoveThread tokens.entry) }
-{
-    let thread = tokens.only()?;
-    let thread = ThreadRef::Named(any_name(thread)?);
-    reading.add_command(Command::RemoveThread { thread })
-}
-
-/// `kill THREAD`, in an input of `lottery 3`
-fn kill(reading: &mut Reading, mut tokens: Tokens<'_>) -> Result<(), LineFault>
-    ensures { (n : ℕ) → Gives reading.new result (body_after_header n reading.old BodyWord.Kill tokens.entry) }
-{
-    let thread = tokens.only()?;
-    let thread = ThreadRef::Named(any_name(thread)?);
-    reading.add_command(Command::Kill { thread })
-}
-
-/// `settkt TICKET AMOUNT`, in an input of `lottery 3`
-fn set_ticket(reading: &mut Reading, mut tokens: Tokens<'_>) -> Result<(), LineFault>
-    ensures { (n : ℕ) → Gives reading.new result (body_after_header n reading.old BodyWord.SetTicket tokens.entry) }
-{
-    let ticket = tokens.expected()?;
-    let amount = tokens.only()?;
-    let given = any_ticket(reading, ticket)?;
-    let ticket = ticket_number(given);
-    let amount = any_number(amount)?;
-    reading.add_naming(ticket_name(given), Command::SetTicket { ticket, amount })
-}
-
-/// `mkthr NAME SCRIPT`
-fn make_thread(reading: &mut Reading, mut tokens: Tokens<'_>) -> Result<(), LineFault>
-    ensures { (n : ℕ) → Gives reading.new result (body_after_header n reading.old BodyWord.MakeThread tokens.entry) }
-{
-    let name = tokens.expected()?;
-    let script = tokens.only()?;
-    let name = any_name(name)?;
-    let script = script_named(reading, script)?;
-    reading.add_command(Command::MakeThread { name, script })
-}
-
-/// `fundx AMOUNT CURRENCY NAME SCRIPT`, and in an input of `lottery 3` with `as TICKET` or without
-fn make_funded(reading: &mut Reading, mut tokens: Tokens<'_>) -> Result<(), LineFault>
-    ensures { (n : ℕ) → Gives reading.new result (body_after_header n reading.old BodyWord.MakeFunded tokens.entry) }
-{
-    let amount = tokens.expected()?;
-    let currency = tokens.expected()?;
-    let name = tokens.expected()?;
-    let script = tokens.expected()?;
-    let ticket = name_at_end(reading, tokens)?;
-    let amount = any_number(amount)?;
-    let currency = CurrencyRef::Named(any_name(currency)?);
-    let name = any_name(name)?;
-    let script = script_named(reading, script)?;
-    reading.add_ticket(
-        ticket,
-        Command::MakeFunded {
-            amount,
-            currency,
-            name,
-            script,
-        },
-    )
-}
-
-/// `lstkt`
-fn list_tickets(reading: &mut Reading, tokens: Tokens<'_>) -> Result<(), LineFault>
-    ensures { (n : ℕ) → Gives reading.new result (body_after_header n reading.old BodyWord.ListTickets tokens.entry) }
-{
-    tokens.none()?;
-    reading.add_command(Command::List(Kind::Tickets))
-}
-
-/// `lscur`
-fn list_currencies(reading: &mut Reading, tokens: Tokens<'_>) -> Result<(), LineFault>
-    ensures { (n : ℕ)
-        → Gives reading.new result (body_after_header n reading.old BodyWord.ListCurrencies tokens.entry) }
-{
-    tokens.none()?;
-    reading.add_command(Command::List(Kind::Currencies))
-}
-
-/// `lsthr`
-fn list_threads(reading: &mut Reading, tokens: Tokens<'_>) -> Result<(), LineFault>
-    ensures { (n : ℕ) → Gives reading.new result (body_after_header n reading.old BodyWord.ListThreads tokens.entry) }
-{
-    tokens.none()?;
-    reading.add_command(Command::List(Kind::Threads))
-}
-
-/// The number of the script with this name, in a command; 0 if there is none so far.
-fn script_named(reading: &Reading, token: &[u8]) -> Result<u32, InputRefusal>
-    ensures { result ≡ script_number_read (script_names reading.now) token.now }
-{
-    if 16 < token.len() {
-        return Err(InputRefusal::TooLong);
-    }
-    Ok(reading.script_number(token))
 }
 
 /// `at TICK`: the time of the commands after it

@@ -1,7 +1,7 @@
 //! Lines of the header.
 ghost use Rattle.std.specs.Prelude.{◌≡◌, ◌<◌, ◌∷◌, false, length, IfOk, MatchResult, None, Ok};
 ghost use Rattle.lot_simulation.specs.Grammar.{first_line as first_line_read, header_in_order, is_late};
-ghost use Rattle.lot_simulation.specs.Grammar.{header_line as header_line_read};
+ghost use Rattle.lot_simulation.specs.Grammar.{header_line as header_line_read, option_line};
 ghost use Rattle.lot_simulation.specs.Reading.{each, number_between as number_read};
 ghost use Rattle.lot_text.specs.Faults.{Fails, Gives};
 ghost use Rattle.lot_program.specs.Parts.{AreSeeds};
@@ -11,7 +11,7 @@ use crate::number::{number_in, only_number};
 use crate::reading::Reading;
 use crate::tokens::Tokens;
 use lot_simulation::{
-    COMPENSATION_WORD, FIRST_WORD, Format, HeaderWord, InputRefusal, LENDING_WORD, ranges,
+    COMPENSATION_WORD, FIRST_WORD, Format, HeaderWord, InputRefusal, LENDING_WORD, Options, ranges,
 };
 use std::alloc::Global;
 
@@ -61,16 +61,17 @@ fn header_arguments(
     ensures { Gives reading.new result (header_line_read reading.old word tokens.entry) }
 {
     match word {
-        HeaderWord::Lottery => Err(LineFault::Refused(InputRefusal::BadHeader)),
         HeaderWord::Processors => read_processors(reading, tokens),
         HeaderWord::Quantum => read_quantum(reading, tokens),
         HeaderWord::Turns => read_turns(reading, tokens),
         HeaderWord::For => read_duration(reading, tokens),
         HeaderWord::Seed => read_seed(alloc, reading, tokens),
         HeaderWord::Limits => read_limits(reading, tokens),
-        HeaderWord::Reuse => read_reuse(reading, tokens),
         HeaderWord::Without => read_without(reading, tokens),
-        HeaderWord::Strict => read_strict(reading, tokens),
+        HeaderWord::Lottery | HeaderWord::Reuse | HeaderWord::Strict => {
+            let chosen = reading.options.with_word(word);
+            read_option(reading, chosen, tokens)
+        }
     }
 }
 
@@ -152,15 +153,22 @@ fn read_limits(reading: &mut Reading, mut tokens: Tokens<'_>) -> Result<(), Line
     Ok(())
 }
 
-/// `reuse`, in a timed input
-fn read_reuse(reading: &mut Reading, tokens: Tokens<'_>) -> Result<(), LineFault>
-    ensures { Gives reading.new result (header_line_read reading.old HeaderWord.Reuse tokens.entry) }
+/// A word alone that chooses these options, if it chooses any, in a timed input.
+fn read_option(
+    reading: &mut Reading,
+    chosen: Option<Options>,
+    tokens: Tokens<'_>,
+) -> Result<(), LineFault>
+    ensures { Gives reading.new result (option_line reading.old tokens.entry chosen) }
 {
     tokens.none()?;
+    let Some(options) = chosen else {
+        return Err(LineFault::Refused(InputRefusal::BadLine));
+    };
     if !reading.format.is_timed() {
         return Err(LineFault::Refused(InputRefusal::BadLine));
     }
-    reading.reuse = true;
+    reading.options = options;
     Ok(())
 }
 
@@ -173,30 +181,18 @@ fn read_without(reading: &mut Reading, tokens: Tokens<'_>) -> Result<(), LineFau
         return Err(LineFault::Refused(InputRefusal::BadLine));
     }
     if mechanism == COMPENSATION_WORD {
-        if reading.without_compensation {
+        if reading.options.without_compensation {
             return Err(LineFault::Refused(InputRefusal::BadHeader));
         }
-        reading.without_compensation = true;
+        reading.options.without_compensation = true;
         return Ok(());
     }
     if mechanism == LENDING_WORD {
-        if reading.without_lending {
+        if reading.options.without_lending {
             return Err(LineFault::Refused(InputRefusal::BadHeader));
         }
-        reading.without_lending = true;
+        reading.options.without_lending = true;
         return Ok(());
     }
     Err(LineFault::Refused(InputRefusal::BadLine))
-}
-
-/// `strict`, in a timed input
-fn read_strict(reading: &mut Reading, tokens: Tokens<'_>) -> Result<(), LineFault>
-    ensures { Gives reading.new result (header_line_read reading.old HeaderWord.Strict tokens.entry) }
-{
-    tokens.none()?;
-    if !reading.format.is_timed() {
-        return Err(LineFault::Refused(InputRefusal::BadLine));
-    }
-    reading.strict = true;
-    Ok(())
 }

@@ -26,8 +26,8 @@ use lot_simulation::{
 };
 use std::alloc::Global;
 
-/// Returns exactly the program in the bytes of an input. Otherwise returns the first faulty line with its first
-/// fault; or `Memory`, if out of memory.
+/// The program in the bytes of an input. Fails with the first faulty line and its first fault, or with `Memory` if out
+/// of memory.
 pub fn parse(alloc: Global, bytes: &[u8]) -> Result<Program, ParseFault>
     ensures program { IfOk result (λ program. program_in bytes.now ≡ Ok program) }
     ensures fault { IfErr result (IsFaultOf (program_in bytes.now)) }
@@ -55,7 +55,8 @@ pub fn parse(alloc: Global, bytes: &[u8]) -> Result<Program, ParseFault>
     }
 }
 
-/// As `parse`, but if a seed is given, with the seeds computed from it in place of the input's own.
+/// Like `parse`, but with the seeds computed from `seed`, if one is given, in place of the input's own. It fails like
+/// `parse`.
 pub fn parse_seeded(alloc: Global, seed: Option<Seed>, bytes: &[u8]) -> Result<Program, ParseFault>
     ensures program { IfOk result (λ program. seeded seed (program_in bytes.now) ≡ Ok program) }
     ensures fault { IfErr result (IsFaultOf (seeded seed (program_in bytes.now))) }
@@ -179,7 +180,7 @@ fn line_inside(
     }
 }
 
-/// The words of a line inside a script, from left to right, each with its argument, if it takes one.
+/// Reads the words of a line inside a script, from left to right, each with its argument, if it takes one.
 fn phrases_inside(
     reading: &mut Reading,
     first: &[u8],

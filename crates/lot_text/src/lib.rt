@@ -4,6 +4,7 @@
 #![tactic(auto)]
 
 mod body;
+mod commands;
 mod fault;
 mod header;
 mod input;

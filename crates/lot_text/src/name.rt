@@ -9,7 +9,7 @@ use crate::tokens::Tokens;
 use lot_machine::{Name, is_good_name};
 use lot_simulation::InputRefusal;
 
-/// A name in a command. Only the kernel checks it further.
+/// A name in a command: any of at most 16 bytes, which the kernel then judges.
 pub(crate) fn any_name(token: &[u8]) -> Result<Name, InputRefusal>
     ensures { result ≡ any_name_read token.now }
 {
@@ -28,7 +28,7 @@ pub(crate) fn new_name(names: &[Name], token: &[u8]) -> Result<Name, InputRefusa
     Ok(name)
 }
 
-/// The only token as a new name, if there are fewer names than `most`.
+/// The only token as a new name, if there are fewer than `most` names.
 pub(crate) fn only_new_name(
     names: &[Name],
     most: usize,

@@ -6,8 +6,7 @@ ghost use Rattle.lot_machine.specs.Bounds.{IsBetween};
 ghost use Rattle.std.specs.Str.Parse.{digits_value};
 ghost use Rattle.lot_simulation.specs.Lines.{is_numeral as is_numeral_token, number_of};
 ghost use Rattle.lot_simulation.specs.Reading.{number_between as number_read, any_number as any_number_read};
-ghost use Rattle.lot_simulation.specs.Reading.{actor_below as actor_read};
-ghost use Rattle.lot_text.specs.Alone.{number_alone};
+ghost use Rattle.lot_simulation.specs.Reading.{actor_below as actor_read, only_token};
 ghost use Rattle.lot_text.specs.Numbers.{within_64_bits};
 
 use crate::tokens::Tokens;
@@ -83,7 +82,6 @@ fn one_digit(byte: u8) -> Option<u64>
     }
 }
 
-/// A number in the range.
 pub(crate) fn number_in(range: Range, token: &[u8]) -> Result<u32, InputRefusal>
     ensures between { IfOk result (IsBetween range.first range.last) }
     ensures read { result ≡ number_read range.first range.last token.now }
@@ -95,7 +93,7 @@ pub(crate) fn number_in(range: Range, token: &[u8]) -> Result<u32, InputRefusal>
     Ok(number as u32)
 }
 
-/// An amount in a command. Only the kernel checks it further.
+/// An amount in a command: any 64-bit number, which the kernel then judges.
 pub(crate) fn any_number(token: &[u8]) -> Result<u64, InputRefusal>
     ensures { result ≡ any_number_read token.now }
 {
@@ -118,7 +116,7 @@ pub(crate) fn actor_below(processors: u32, token: &[u8]) -> Result<u8, InputRefu
 /// The only token as a number in the range.
 pub(crate) fn only_number(range: Range, tokens: Tokens<'_>) -> Result<u32, InputRefusal>
     ensures between { IfOk result (IsBetween range.first range.last) }
-    ensures read { result ≡ number_alone range.first range.last tokens.entry }
+    ensures read { result ≡ only_token (number_read range.first range.last) tokens.entry }
 {
     let token = tokens.only()?;
     number_in(range, token)

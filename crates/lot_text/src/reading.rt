@@ -7,20 +7,19 @@ ghost use Rattle.std.specs.Option.{ForSome};
 ghost use Rattle.std.specs.Str.{bytes_eq};
 ghost use Rattle.lot_machine.specs.Bounds.{IsBetween};
 ghost use Rattle.lot_machine.specs.Lottery.{mixed_seed};
-ghost use Rattle.lot_simulation.specs.Grammar.{add_command as add_command_read, add_runs as add_runs_read};
-ghost use Rattle.lot_simulation.specs.Grammar.{add_named as add_named_read, add_naming as add_naming_read};
-ghost use Rattle.lot_simulation.specs.Grammar.{closed_program, lacks_duration as lacks_duration_read, limits_of};
+ghost use Rattle.lot_simulation.specs.Grammar.{add_runs as add_runs_read, add_named as add_named_read};
+ghost use Rattle.lot_simulation.specs.Grammar.{add_naming as add_naming_read, closed_program};
+ghost use Rattle.lot_simulation.specs.Grammar.{lacks_duration as lacks_duration_read, limits_of};
 ghost use Rattle.lot_simulation.specs.Grammar.{is_after_seed as is_after_seed_read, is_given as is_given_read};
-ghost use Rattle.lot_simulation.specs.Grammar.{has_line as has_line_read};
-ghost use Rattle.lot_simulation.specs.Grammar.{is_late as is_late_read, program_of, script_names, whole_program};
-ghost use Rattle.lot_simulation.specs.Grammar.{with_header_word};
+ghost use Rattle.lot_simulation.specs.Grammar.{has_line as has_line_read, is_late as is_late_read, program_of};
+ghost use Rattle.lot_simulation.specs.Grammar.{script_names, whole_program, with_header_word};
 ghost use Rattle.lot_simulation.specs.Formats.{is_timed, unit_of};
 ghost use Rattle.lot_simulation.specs.Reading.{number_named, opening_reading};
 ghost use Rattle.lot_simulation.specs.Words.{header_place};
 ghost use Rattle.lot_machine.specs.State.{sizes_of};
 ghost use Rattle.lot_text.specs.Faults.{Gives, IsFaultOf};
 ghost use Rattle.lot_program.specs.Parts.{AreSeeds};
-ghost use Rattle.lot_text.specs.Readings.{after_header, ticket_added};
+ghost use Rattle.lot_text.specs.Readings.{after_header};
 
 use crate::ParseFault;
 use crate::fault::LineFault;
@@ -29,7 +28,7 @@ use crate::runs::{ActorRun, actors_of, have_room};
 use lot_machine::{Command, Limits, Name, Sizes};
 use lot_program::{CommandList, Commands, Parts, Program};
 use lot_script::{Script, ScriptBuilder};
-use lot_simulation::{Format, HEADER_WORDS, HeaderWord, InputFault, InputRefusal};
+use lot_simulation::{Format, HEADER_WORDS, HeaderWord, InputFault, InputRefusal, Options};
 use std::alloc::{AllocError, Global};
 use std::marker::Model;
 use std::mem;
@@ -77,7 +76,7 @@ const MOST_TICKET_NAMES: usize = 4096;
 
 /// The state after some lines of an input.
 pub(crate) struct Reading {
-    /// The place of the last header line, or 0 in a timed input; from the body on the body's.
+    /// The place of the last header line, or 0 in a timed input; from the body on, the body's place.
     pub(crate) place: u32,
     /// The words of the header lines so far.
     pub(crate) given: Vec<HeaderWord>,
@@ -90,14 +89,7 @@ pub(crate) struct Reading {
     pub(crate) tickets: u32,
     pub(crate) currencies: u32,
     pub(crate) threads: u32,
-    /// Whether numbers are given again.
-    pub(crate) reuse: bool,
-    /// Whether no thread is compensated.
-    pub(crate) without_compensation: bool,
-    /// Whether blocked threads lend to nobody.
-    pub(crate) without_lending: bool,
-    /// Whether a refused command or trap ends the play.
-    pub(crate) strict: bool,
+    pub(crate) options: Options,
     pub(crate) ports: Vec<Name>,
     pub(crate) mutexes: Vec<Name>,
     pub(crate) scripts: Vec<NamedScript>,
@@ -129,10 +121,7 @@ impl Drop for Reading {
             tickets: _,
             currencies: _,
             threads: _,
-            reuse: _,
-            without_compensation: _,
-            without_lending: _,
-            strict: _,
+            options: _,
             ports: _,
             mutexes: _,
             scripts: _,
@@ -177,10 +166,7 @@ impl Reading {
             tickets: Sizes::LARGEST.tickets,
             currencies: Sizes::LARGEST.currencies,
             threads: Sizes::LARGEST.threads,
-            reuse: false,
-            without_compensation: false,
-            without_lending: false,
-            strict: false,
+            options: Options::NONE,
             ports: Vec::new(alloc),
             mutexes: Vec::new(alloc),
             scripts: Vec::new(alloc),
@@ -208,7 +194,7 @@ impl Reading {
         word.place() <= self.place || self.is_given(word) || self.is_after_seed(word)
     }
 
-    /// Whether the word was given and can't come again. `without` can, with another word.
+    /// Whether the word was given and can't come again. `without` can come again, with its other word.
     fn is_given(&self, word: HeaderWord) -> bool
         ensures { result ≡ is_given_read self.now word }
     {
@@ -236,7 +222,7 @@ impl Reading {
         }
     }
 
-    /// Adds the word of a header line, after which only a timed input may have the words before it.
+    /// Adds the word of a header line. After it only a timed input may have the words before it.
     pub(crate) fn add_header_word(&mut self, word: HeaderWord) -> Result<(), AllocError>
         requires { 0 < header_place word }
         ensures { OnOk result (self.new ≡ with_header_word self.old word) }
@@ -248,30 +234,8 @@ impl Reading {
         Ok(())
     }
 
-    /// Adds a command that names no ticket, which ends the header.
-    pub(crate) fn add_command(&mut self, command: Command) -> Result<(), LineFault>
-        ensures { Gives self.new result (after_header (add_command_read self.old command)) }
-    {
-        self.add_naming(None, command)
-    }
-
-    /// Adds a command that makes a ticket, which has this name if one is given. It ends the header.
-    pub(crate) fn add_ticket(
-        &mut self,
-        name: Option<&[u8]>,
-        command: Command,
-    ) -> Result<(), LineFault>
-        ensures { Gives self.new result
-            (after_header (ticket_added self.old (option_map (λ token. token.now) name.entry) command)) }
-    {
-        match name {
-            Some(token) => self.add_named(token, command),
-            None => self.add_command(command),
-        }
-    }
-
-    /// Adds a command that makes a ticket with this name, which must be new.
-    fn add_named(&mut self, token: &[u8], command: Command) -> Result<(), LineFault>
+    /// Adds a command that makes a ticket with this name, which must be new. It ends the header.
+    pub(crate) fn add_named(&mut self, token: &[u8], command: Command) -> Result<(), LineFault>
         ensures { Gives self.new result (after_header (add_named_read self.old token.now command)) }
     {
         let name = new_name(self.ticket_names.as_slice(), token)?;
@@ -283,7 +247,7 @@ impl Reading {
         self.add_naming(Some(number), command)
     }
 
-    /// Adds a command, with the number of the name that it has for its ticket, which ends the header.
+    /// Adds a command, with the number of the name that it has for its ticket. It ends the header.
     pub(crate) fn add_naming(
         &mut self,
         name: Option<u16>,
@@ -355,16 +319,16 @@ impl Reading {
             scripts: self.scripts.len() as u32,
             quantum: self.quantum,
             unit: self.format.unit(),
-            reuse: self.reuse,
+            reuse: self.options.reuse,
             plain_names: false,
-            without_compensation: self.without_compensation,
-            without_lending: self.without_lending,
+            without_compensation: self.options.without_compensation,
+            without_lending: self.options.without_lending,
             queued_lend: false,
         };
         Limits::new(sizes).unwrap()
     }
 
-    /// The program, if no script is open and a timed input gave its duration. This is the last line's number.
+    /// The program. Fails if a script is open, or if a timed input gave no duration; `last` is the last line's number.
     pub(crate) fn into_program(self, alloc: Global, last: u32) -> Result<Program, ParseFault>
         ensures program { (count : ℕ) → last ≡ max 1 count
             → IfOk result (λ program. whole_program count (Some self) ≡ Ok program) }
@@ -379,7 +343,7 @@ impl Reading {
         self.into_closed(alloc)
     }
 
-    /// The program, if no script is open.
+    /// The program. Fails if a script is open.
     fn into_closed(self, alloc: Global) -> Result<Program, ParseFault>
         requires { lacks_duration_read self ≡ false }
         ensures program { IfOk result (λ program. closed_program self self.unclosed ≡ Ok program) }
@@ -396,7 +360,7 @@ impl Reading {
         Ok(reading.take_program(alloc)?)
     }
 
-    /// The program, whose scripts are all closed. It takes seeds, scripts and tables out of the reading.
+    /// The program, whose scripts are all closed. It moves seeds, scripts and tables out of the reading.
     fn take_program(&mut self, alloc: Global) -> Result<Program, AllocError>
         requires { lacks_duration_read self.old ≡ false }
         ensures { IfOk result (λ program. program ≡ program_of self.old) }
@@ -406,7 +370,7 @@ impl Reading {
         let format = self.format;
         let turns = self.turns;
         let duration = self.duration;
-        let strict = self.strict;
+        let options = self.options;
         let seeds = seeds_or_own(alloc, self.seeds.take(), self.processors, format)?;
         let scripts = without_names(alloc, mem::replace(&mut self.scripts, Vec::new(alloc)))?;
         let tables = self.take_tables(alloc)?;
@@ -422,11 +386,11 @@ impl Reading {
             times: tables.times,
             ticket_names,
             names: tables.names,
-            strict,
+            options,
         }))
     }
 
-    /// The tables that copies of the program share. The reading has none of them afterwards.
+    /// The tables that copies of the program share, moved out of the reading.
     fn take_tables(&mut self, alloc: Global) -> Result<SharedTables, AllocError>
         ensures left { self.new ≡ record self.old { commands = []; schedule = []; times = []; names = [] } }
         ensures commands { IfOk result (λ tables. tables.commands ≡ self.old.commands) }
@@ -452,7 +416,7 @@ struct SharedTables {
     names: ArcSlice<Option<u16>>,
 }
 
-/// These tables, to be shared.
+/// These tables, in shared memory.
 fn shared(
     commands: CommandList,
     schedule: Vec<u8>,
@@ -480,7 +444,7 @@ fn place_named(scripts: &[NamedScript], name: &[u8]) -> Option<usize>
     scripts.iter().position(|s| name == s.name.as_bytes())
 }
 
-/// The seeds in the input; without them processor p has seed p, or its mixed seed in a timed input.
+/// The input's seeds. Without them processor p has seed p, or its mixed seed in a timed input.
 fn seeds_or_own(
     alloc: Global,
     given: Option<Vec<u32>>,
@@ -516,7 +480,7 @@ fn mixed_seeds(alloc: Global, processors: u32) -> Result<Vec<u32>, AllocError>
     Ok(seeds)
 }
 
-/// For each processor its own number as its seed.
+/// The number of each processor as its seed.
 fn own_seeds(alloc: Global, processors: u32) -> Result<Vec<u32>, AllocError>
     requires { IsBetween 1 64 processors }
     ensures seeds { IfOk result (λ s. AreSeeds processors s.items) }

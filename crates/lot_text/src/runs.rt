@@ -57,7 +57,7 @@ fn run_of(processors: u32, actor: &[u8], count: &[u8]) -> Result<ActorRun, Input
     Ok(ActorRun { actor, count })
 }
 
-/// Whether the runs have at most this many turns.
+/// Whether the runs have at most `room` turns.
 pub(crate) fn have_room(runs: &[ActorRun], room: usize) -> bool
     ensures { IsTrue result ↔ (sum_by (λ run. run.count) runs.now ≤ room) }
 {

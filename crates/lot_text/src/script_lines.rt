@@ -1,6 +1,7 @@
 //! Lines of scripts.
-ghost use Rattle.std.specs.Prelude.{◌≡◌, ◌<◌, length};
-ghost use Rattle.lot_simulation.specs.Grammar.{script_line as script_line_read};
+ghost use Rattle.std.specs.Prelude.{◌≡◌, ◌<◌, length, IfOk};
+ghost use Rattle.lot_machine.specs.Actions.{with_numbers};
+ghost use Rattle.lot_simulation.specs.Grammar.{script_line as script_line_read, trap_number as trap_number_read};
 ghost use Rattle.lot_script.specs.Drafts.{CanNest, IsLine};
 ghost use Rattle.lot_text.specs.Faults.{Gives};
 ghost use Rattle.lot_text.specs.Readings.{line_added, within_script};
@@ -10,10 +11,9 @@ use crate::name::known_name;
 use crate::number::only_number;
 use crate::reading::{NamedScript, OpenScript, Reading};
 use crate::tokens::Tokens;
+use lot_machine::{Trap, TrapWord};
 use lot_script::ScriptBuilder;
-use lot_simulation::{
-    InputRefusal, MutexTrap, PortTrap, ScriptLine, ScriptTrap, ScriptWord, ranges,
-};
+use lot_simulation::{InputRefusal, ScriptLine, ScriptWord, ranges};
 
 /// A line of this script, which stays open until `endscript`.
 pub(crate) fn script_line(
@@ -31,11 +31,7 @@ pub(crate) fn script_line(
         ScriptWord::Add => add(reading, script, tokens),
         ScriptWord::Loop => begin_loop(reading, script, tokens),
         ScriptWord::End => end_loop(reading, script, tokens),
-        ScriptWord::Yield => give_way(reading, script, tokens),
-        ScriptWord::Reply => reply(reading, script, tokens),
-        ScriptWord::AtPort(asked) => at_port(reading, script, asked, tokens),
-        ScriptWord::OnMutex(asked) => on_mutex(reading, script, asked, tokens),
-        ScriptWord::Sleep => sleep(reading, script, tokens),
+        ScriptWord::Trap(word) => trap(reading, script, word, tokens),
         ScriptWord::EndScript => end_script(reading, script, tokens),
     }
 }
@@ -100,74 +96,44 @@ fn end_loop(reading: &mut Reading, script: OpenScript, tokens: Tokens<'_>) -> Re
     add_line(reading, script, ScriptLine::End)
 }
 
-/// `yield`
-fn give_way(reading: &mut Reading, script: OpenScript, tokens: Tokens<'_>) -> Result<(), LineFault>
-    requires { length reading.old.scripts < 256 }
-    ensures { Gives reading.new result
-        (script_line_read (within_script reading.old script) script ScriptWord.Yield tokens.entry) }
-{
-    tokens.none()?;
-    add_line(reading, script, ScriptLine::Trap(ScriptTrap::Yield))
-}
-
-/// `reply`
-fn reply(reading: &mut Reading, script: OpenScript, tokens: Tokens<'_>) -> Result<(), LineFault>
-    requires { length reading.old.scripts < 256 }
-    ensures { Gives reading.new result
-        (script_line_read (within_script reading.old script) script ScriptWord.Reply tokens.entry) }
-{
-    tokens.none()?;
-    add_line(reading, script, ScriptLine::Trap(ScriptTrap::Reply))
-}
-
-/// `call PORT`, `receive PORT` or `serve PORT`
-fn at_port(
+/// A trap, at the port, on the mutex or for the ticks that the tokens give.
+fn trap(
     reading: &mut Reading,
     script: OpenScript,
-    asked: PortTrap,
+    word: TrapWord,
     tokens: Tokens<'_>,
 ) -> Result<(), LineFault>
     requires { length reading.old.scripts < 256 }
     ensures { Gives reading.new result
-        (script_line_read (within_script reading.old script) script (ScriptWord.AtPort asked) tokens.entry) }
+        (script_line_read (within_script reading.old script) script (ScriptWord.Trap word) tokens.entry) }
 {
-    let port = tokens.only()?;
-    let port = known_name(reading.ports.as_slice(), port)?;
+    let number = trap_number(reading, word, tokens)?;
     add_line(
         reading,
         script,
-        ScriptLine::Trap(ScriptTrap::AtPort(asked, port)),
+        ScriptLine::Trap(word.with(number, (), (), number)),
     )
 }
 
-/// `lock MUTEX` or `unlock MUTEX`
-fn on_mutex(
-    reading: &mut Reading,
-    script: OpenScript,
-    asked: MutexTrap,
-    tokens: Tokens<'_>,
-) -> Result<(), LineFault>
-    requires { length reading.old.scripts < 256 }
-    ensures { Gives reading.new result
-        (script_line_read (within_script reading.old script) script (ScriptWord.OnMutex asked) tokens.entry) }
+/// The number of a trap's port or mutex, or the ticks of its sleep; 0 if it takes no argument.
+fn trap_number(reading: &Reading, word: TrapWord, tokens: Tokens<'_>) -> Result<u32, InputRefusal>
+    ensures line { IfOk result (λ number. IsLine (ScriptLine.Trap (with_numbers word number tt tt number))) }
+    ensures read { result ≡ trap_number_read reading.now.ports reading.now.mutexes word tokens.entry }
 {
-    let mutex = tokens.only()?;
-    let mutex = known_name(reading.mutexes.as_slice(), mutex)?;
-    add_line(
-        reading,
-        script,
-        ScriptLine::Trap(ScriptTrap::OnMutex(asked, mutex)),
-    )
-}
-
-/// `sleep TICKS`
-fn sleep(reading: &mut Reading, script: OpenScript, tokens: Tokens<'_>) -> Result<(), LineFault>
-    requires { length reading.old.scripts < 256 }
-    ensures { Gives reading.new result
-        (script_line_read (within_script reading.old script) script ScriptWord.Sleep tokens.entry) }
-{
-    let ticks = only_number(ranges::SLEEP, tokens)?;
-    add_line(reading, script, ScriptLine::Trap(ScriptTrap::Sleep(ticks)))
+    match word {
+        Trap::Yield | Trap::Reply(_) => {
+            tokens.none()?;
+            Ok(0)
+        }
+        Trap::Call(..) | Trap::Receive(_) | Trap::Serve(..) => {
+            known_name(reading.ports.as_slice(), tokens.only()?)
+        }
+        Trap::Lock(_) | Trap::Unlock(..) => {
+            known_name(reading.mutexes.as_slice(), tokens.only()?)
+        }
+        Trap::Sleep(_) => only_number(ranges::SLEEP, tokens),
+        Trap::Exit => Err(InputRefusal::BadLine),
+    }
 }
 
 /// `endscript`
@@ -195,7 +161,7 @@ fn end_script(
     Ok(())
 }
 
-/// Adds this line to the script, unless it has as many lines as are allowed.
+/// Adds this line to the script, unless the script is full.
 fn add_line(
     reading: &mut Reading,
     mut script: OpenScript,

@@ -12,7 +12,7 @@ use std::marker::Model;
 /// The remaining tokens of a printable line.
 #[derive(Drop)]
 pub(crate) struct Tokens<'a> {
-    /// The rest of the line. It has no bytes up to 32 but separators, so one loop finds tokens in each format.
+    /// The rest of the line. Its only bytes up to 32 are separators, so one loop finds tokens in each format.
     rest: &'a [u8],
 }
 
@@ -110,14 +110,14 @@ impl<'a> Tokens<'a> {
         Some((first, second))
     }
 
-    /// A number that the tokens don't exceed: each takes a byte, and all but the last a separator.
+    /// An upper bound on the number of tokens: each takes a byte, and all but the last a separator.
     pub(crate) fn most(&self) -> usize
         ensures { length self.now ≤ result }
     {
         self.rest.len().div_ceil(2)
     }
 
-    /// Whether the tokens are pairs, without a rest.
+    /// Whether the number of tokens is even.
     pub(crate) fn are_pairs(&self) -> bool
         ensures { IsTrue result ↔ (length self.now % 2 ≡ 0) }
     {
@@ -203,14 +203,14 @@ pub(crate) fn begins_comment(token: &[u8]) -> bool
 fn is_printable(separators: Separators, line: &[u8]) -> bool
     ensures { result ≡ lines.is_printable separators line.now }
 {
-    // Each has a loop of its own, so the loop of spaces is as fast as if there were no other.
+    // Each style has a loop of its own, so that the loop for spaces alone stays fast.
     match separators {
         Separators::Spaces => are_printable(Separators::Spaces, line),
         Separators::Blanks => are_printable(Separators::Blanks, line),
     }
 }
 
-/// As `is_printable`. It doesn't end at the first other byte, so the compiler tests many bytes at once.
+/// Like `is_printable`. It goes on after a faulty byte, so the compiler can test many bytes at once.
 #[inline(always)]
 fn are_printable(separators: Separators, line: &[u8]) -> bool
     ensures { result ≡ lines.is_printable separators line.now }

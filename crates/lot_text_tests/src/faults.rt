@@ -7,7 +7,7 @@ use lot_simulation::InputFault;
 use lot_text::{ParseFault, parse};
 use std::alloc::{AllocError, Global};
 
-/// The fault of a refused input, or `None` for an accepted one. An error if out of memory.
+/// The fault of a refused input, or `None` for an accepted one. Fails only if out of memory.
 pub fn fault_of(alloc: Global, bytes: &[u8]) -> Result<Option<InputFault>, AllocError>
     ensures { IfOk result (λ fault. MatchOption fault ((program : ProgramRecord)
         × (program_in bytes.now ≡ Ok program)) (λ f. program_in bytes.now ≡ Err f)) }

@@ -1,5 +1,5 @@
 //! Tests of `lot_script`, `lot_text` and `lot_print`: slices of scripts, accepted and refused inputs, and printed
-//! texts. They are in a crate of their own, so that those three aren't proved a second time for them.
+//! texts. They are a crate of their own, so that those three aren't proved a second time for them.
 #![tactic(auto)]
 
 mod faults;

@@ -4,10 +4,12 @@ mod same;
 mod slices;
 
 use crate::fault_of;
-use lot_machine::{Command, CurrencyRef, Kind, Limits, Name, Sizes, TargetRef, ThreadRef};
+use lot_machine::{
+    Command, CurrencyRef, Kind, Limits, Name, ScriptTrap, Sizes, TargetRef, ThreadRef,
+};
 use lot_program::{Commands, Program, Seed};
 use lot_script::Script;
-use lot_simulation::{InputFault, InputRefusal, MutexTrap, PortTrap, ScriptLine, ScriptTrap};
+use lot_simulation::{InputFault, InputRefusal, Options, ScriptLine};
 use lot_text::{ParseFault, parse, parse_seeded};
 use same::{check_same, check_same_at};
 use std::alloc::Global;
@@ -31,7 +33,7 @@ enum Asked<'a> {
     List(Kind),
 }
 
-/// The content of an input.
+/// The expected program of an input.
 struct Said<'a> {
     sizes: Sizes,
     seeds: &'a [u32],
@@ -43,7 +45,7 @@ struct Said<'a> {
     times: &'a [u32],
     ticket_names: u32,
     names: &'a [Option<u16>],
-    strict: bool,
+    options: Options,
 }
 
 fn name(rt: &impl Abort, text: &str) -> Name {
@@ -124,17 +126,17 @@ fn check_numbers(rt: &impl Abort, program: &Program, said: &Said<'_>) {
     check_same(rt, &program.turns(), &said.turns);
 }
 
-/// Compares how long it runs, and when its commands are made.
+/// Compares the duration, and the times of the commands.
 fn check_times(rt: &impl Abort, program: &Program, said: &Said<'_>) {
     check_items(rt, program.times(), said.times);
     check_same(rt, &program.duration(), &said.duration);
 }
 
-/// Compares the names of tickets, and whether a refusal ends the play.
+/// Compares the names of tickets, and what the header chooses.
 fn check_names(rt: &impl Abort, program: &Program, said: &Said<'_>) {
     check_same(rt, &program.ticket_names(), &said.ticket_names);
     check_items(rt, program.names(), said.names);
-    check_same(rt, &program.is_strict(), &said.strict);
+    check_same(rt, &program.options(), &said.options);
 }
 
 fn check_scripts(rt: &impl Abort, scripts: &[Script], wanted: &[&[ScriptLine]]) {
@@ -164,7 +166,7 @@ fn check_program(rt: &impl Abort, program: &Program, said: &Said<'_>) {
     check_commands(rt, program.commands(), said.commands);
 }
 
-/// Reads the text, and compares the program with what it says.
+/// Reads the text, and compares the program with the expected one.
 fn check_said(rt: &impl Abort, alloc: Global, text: &str, said: &Said<'_>) {
     let program = parse(alloc, text.as_bytes()).expect(rt, "it is read");
     check_program(rt, &program, said);
@@ -207,7 +209,7 @@ const FIRST_RUN_SAYS: &Said<'static> = &Said {
     times: &[],
     ticket_names: 0,
     names: &[],
-    strict: false,
+    options: Options::NONE,
 };
 
 #[test]
@@ -215,7 +217,7 @@ fn reads_the_first_run(rt: HostRuntime) {
     check_said(&rt, rt.alloc(), FIRST_RUN, FIRST_RUN_SAYS);
 }
 
-/// Compares the seeds of an input that names three, read with this one in their place.
+/// Compares the seeds of an input with three of its own, read with this seed in their place.
 fn check_seeds(rt: &impl Abort, alloc: Global, given: Option<Seed>, wanted: &[u32]) {
     let text = "lottery 3\nprocessors 3\nfor 1\nseed 7 8 9\n";
     let program = parse_seeded(alloc, given, text.as_bytes()).expect(rt, "it is read");
@@ -265,7 +267,7 @@ const HEADERS_SAY: &Said<'static> = &Said {
     times: &[],
     ticket_names: 0,
     names: &[],
-    strict: false,
+    options: Options::NONE,
 };
 
 #[test]
@@ -306,12 +308,12 @@ const WHOLE_GRAMMAR_SAYS: &Said<'static> = &Said {
             ScriptLine::Loop(2),
             ScriptLine::Add(3),
             ScriptLine::Compute(4),
-            ScriptLine::Trap(ScriptTrap::AtPort(PortTrap::Call, 1)),
+            ScriptLine::Trap(ScriptTrap::Call(1, ())),
             ScriptLine::End,
-            ScriptLine::Trap(ScriptTrap::AtPort(PortTrap::Receive, 2)),
-            ScriptLine::Trap(ScriptTrap::Reply),
-            ScriptLine::Trap(ScriptTrap::OnMutex(MutexTrap::Lock, 1)),
-            ScriptLine::Trap(ScriptTrap::OnMutex(MutexTrap::Unlock, 2)),
+            ScriptLine::Trap(ScriptTrap::Receive(2)),
+            ScriptLine::Trap(ScriptTrap::Reply(())),
+            ScriptLine::Trap(ScriptTrap::Lock(1)),
+            ScriptLine::Trap(ScriptTrap::Unlock(2, ())),
             ScriptLine::Trap(ScriptTrap::Yield),
         ],
         &[],
@@ -334,7 +336,7 @@ const WHOLE_GRAMMAR_SAYS: &Said<'static> = &Said {
     times: &[],
     ticket_names: 0,
     names: &[],
-    strict: false,
+    options: Options::NONE,
 };
 
 #[test]
@@ -371,7 +373,7 @@ const TIMED_SAYS: &Said<'static> = &Said {
     turns: 5,
     scripts: &[&[
         ScriptLine::Loop(2),
-        ScriptLine::Trap(ScriptTrap::AtPort(PortTrap::Serve, 1)),
+        ScriptLine::Trap(ScriptTrap::Serve(1, ())),
         ScriptLine::Trap(ScriptTrap::Yield),
         ScriptLine::End,
         ScriptLine::Trap(ScriptTrap::Sleep(4294967295)),
@@ -394,7 +396,12 @@ const TIMED_SAYS: &Said<'static> = &Said {
     times: &[0, 20, 20, 20, 20, 20, 20, 20, 20, 20],
     ticket_names: 0,
     names: &[None; 10],
-    strict: false,
+    options: Options {
+        reuse: true,
+        without_compensation: false,
+        without_lending: false,
+        strict: false,
+    },
 };
 
 #[test]
@@ -438,7 +445,12 @@ const HEADER_ORDERS_SAY: &Said<'static> = &Said {
     times: &[],
     ticket_names: 0,
     names: &[],
-    strict: true,
+    options: Options {
+        reuse: true,
+        without_compensation: true,
+        without_lending: true,
+        strict: true,
+    },
 };
 
 fn check_header_order(rt: &impl Abort, alloc: Global, header: &str) {
@@ -516,7 +528,7 @@ const NAMED_SAYS: &Said<'static> = &Said {
         Some(1),
         None,
     ],
-    strict: false,
+    options: Options::NONE,
 };
 
 #[test]
@@ -524,13 +536,13 @@ fn reads_names_of_tickets(rt: HostRuntime) {
     check_said(&rt, rt.alloc(), NAMED, NAMED_SAYS);
 }
 
-/// Reads the text, unless memory lacks.
+/// Reads the text, unless out of memory.
 fn check_read(rt: &impl Abort, alloc: Global, text: &str) {
     let result = parse(alloc, text.as_bytes());
     assert!(rt; matches!(&result, Ok(_) | Err(ParseFault::Memory)));
 }
 
-// For runs in which one allocation is refused: the tests above fail in those that refuse one of these.
+// For runs in which one allocation fails: the tests above fail in those that refuse one of these.
 #[test]
 fn reads_or_lacks_memory(rt: HostRuntime) {
     check_read(&rt, rt.alloc(), WHOLE_GRAMMAR);
@@ -555,7 +567,7 @@ fn check_refused(rt: &impl Abort, alloc: Global, text: &str, line: u32, refusal:
     check_same_at(rt, &text, &refused(rt, alloc, text), &Some((line, refusal)));
 }
 
-/// Checks that this beginning is refused with each of these ends.
+/// Checks that inputs with this beginning are refused for each of these ends.
 fn check_ends(rt: &impl Abort, alloc: Global, beginning: &str, wanted: &Refusals<'_>) {
     for end in wanted.ends {
         let text = format!(in alloc; "{beginning}{end}").expect(rt, "memory");
@@ -872,7 +884,7 @@ const REFUSED_DURATIONS: &[Refusals<'static>] = &[
     },
 ];
 
-/// Lines after its header.
+/// Lines after the header.
 const REFUSED_TIMES: &[Refusals<'static>] = &[
     Refusals {
         line: 3,
@@ -1015,7 +1027,7 @@ const REFUSED_NAMES: &[Refusals<'static>] = &[
     },
 ];
 
-/// In the other formats.
+/// The lines in the other formats.
 const NAMES_OF_OTHERS: &[Refusals<'static>] = &[
     Refusals {
         line: 2,

@@ -1,4 +1,4 @@
--- What is kept of the threads, after one more is made.
+-- The invariants of the threads after one more is made.
 use Rattle.lot_threads.proofs.Common.{All, All-append, All-cons, All-nil, AreOf, AreReady, AreRunners, AreWeights, Bool, Competitor, Edge, Funding, IsLive, IsStale, IsThread, IsTimely, Known, Lend, LimitedFunding, List, MakesStale, Nobody, Node, None, OfLender, OfMutex, OfTicket, Option, Queued, Ready, Record, Running, Sizes, Some, Thread, Valued, ap, arith, at_number, at_number-suc, cases_eq, competes-more, competitor_at, competitor_of, edges-between, false, inl, inr, is_live_status, lend_of, length, length-append, length-map, length-set, lent_weighed, makes-both, map, map-append, newborn, number-push, number-set_same, number-some, option_and_then, option_flatten, option_map, queue-set, refl, runner_at, set-append_seam, set_number, slice_get, slice_set, some-injective, status_of, subst, suc, sym, true, weighed_of, weights-follow, with_lends, zero, ℕ, [], ◌++◌, ◌+◌, ◌-◌, ◌<◌, ◌∙◌, ◌∷◌, ◌≡◌, ◌⊎◌}
 use Rattle.lot_threads.proofs.Together.{number-other}
 

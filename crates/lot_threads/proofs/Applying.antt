@@ -1,4 +1,4 @@
--- A change of tickets, currencies or owners, as one of all that is kept of the threads.
+-- A change of tickets, currencies or owners, as a change of all data of the threads.
 use Rattle.lot_threads.proofs.Common.{AreOf, Bool, GraphChange, IsStale, LeavesThreads, Lend, List, Node, Option, PutThread, Queued, Record, Sizes, StaleBy, Thread, Valued, ap, applied, lends_after, lends_in, live_after, live_in, refl, subst, sym, with_lends, ℕ, ◌∙◌, ◌≡◌, ◌⊎◌}
 use Rattle.lot_threads.proofs.Together.{IsReached, graph-is, graph-of, stale-of}
 

@@ -1,4 +1,4 @@
--- What may be lent when a trap ends: whatever makes no cycle.
+-- The possible lends when a trap ends: any that makes no cycle.
 use Rattle.lot_threads.proofs.Common.{CanLend, Edge, Funding, FundsThere, HasNoCycle, IsBorrower, IsWay, Lend, LendReaches, List, Nobody, Node, OfLender, OfMutex, OfTicket, Some, ToMutex, ToThread, ap, at_number, ends_of, inl, inr, lend-edge, lend_node, lent_ends, no-way-back, number-set, number-set_same, number-there, refl, set_number, subst, suc, sym, ℕ, [], ◌-◌, ◌∙◌, ◌∷◌, ◌≡◌, ◌⊎◌}
 use Rattle.lot_machine.specs.declared.funding.Node.TheVariants as node
 

@@ -1,4 +1,5 @@
--- A change of threads, and then one of a record that the first change left: what a trap does, and what becomes of its thread.
+-- A change of threads, and then one of a record that the first change left: a trap's effect, and its thread's
+-- disposition.
 use Rattle.lot_threads.proofs.Common.{Edge, LiveBetween, MakesStaleIn, OfLender, OfMutex, OfTicket, Record, Sizes, Some, Threaded, WeighedBetween, ap, at_number, at_number-map, edges-between, funding_in, inl, inr, is_live_status, lend_of, lends_in, lent_weighed, live-between, live_in, number-set, number-there, option_map, set_number, suc, sym, weighed_of, with_records, ℕ, ◌-◌, ◌∙◌, ◌≡◌, ◌⊎◌}
 use Rattle.lot_threads.proofs.TwoChanges.{makes-both-in}
 

@@ -1,4 +1,4 @@
--- Ways between threads are chains of lends.
+-- Paths between threads are chains of lends.
 use Rattle.lot_threads.proofs.Common.{Funding, IsEdge, IsWay, Lend, LendsLead, LendsTo, List, Nobody, Node, None, OfLender, OfMutex, OfTicket, Option, Reaches, Some, Ticket, ToMutex, ToThread, ap, arith, at_number, borrower, lead-reaches, lend_node, length, lent_ends, option_and_then, option_map, owner_of, refl, some-injective, subst, suc, sym, target_node, ticket_at, zero, ℕ, [], ◌↔◌, ◌∙◌, ◌∷◌, ◌≡◌, ◌≤◌}
 use Rattle.lot_machine.specs.declared.funding.Node.TheVariants as node
 

@@ -1,4 +1,4 @@
--- Who may begin to run.
+-- The threads that may start to run.
 use Rattle.lot_threads.proofs.Common.{None, Running, Some, Threaded, nobody-runs, status_of, thread_on, ℕ, ◌≡◌}
 
 -- nobody else runs where nobody runs

@@ -1,4 +1,4 @@
--- Who runs where, after a thread's record changes.
+-- The thread on each processor, after a thread's record changes.
 use Rattle.lot_threads.proofs.Common.{AreRunners, Asleep, CanRun, Dead, IsBetween, List, None, Option, Ready, Receiving, Record, Running, Served, Some, Status, Threaded, Waiting, ap, arith, at_number, cases_eq, found-runs, inl, inr, length, length-set, nobody-runs, number-set, number-set_same, number-some, number-there, number-within, option_flatten, option_map, refl, runner_at, runs-used_by, set_number, some-injective, status_of, subst, suc, sym, thread_on, used_by, with_runner, without_runner, ℕ, ◌-◌, ◌∙◌, ◌≡◌, ◌≤◌, ◌⊎◌}
 use Rattle.lot_machine.specs.declared.record.Status.TheVariants.{Queued}
 

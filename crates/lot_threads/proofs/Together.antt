@@ -1,4 +1,4 @@
--- What is kept of the threads, after a change of one record.
+-- The invariants of the threads after a change of one record.
 use Rattle.lot_threads.proofs.Common.{All, All-set, AreOf, AreReady, AreRunners, AreWeights, Bool, CanLend, CompetesIn, Competitor, Funding, IsBetween, IsStale, IsThread, IsTimely, IsTouched, Known, Lend, LimitedFunding, List, MakesStale, Node, None, Option, PathLeads, Queued, Record, Running, Sizes, Some, Thread, Valued, ap, arith, at_number, at_number-suc, cases_eq, competes-more, competes-none, competitor_at, competitor_of, inl, inr, is_live_status, lend_of, lends_in, length, length-map, length-set, map-set, number-set, number-set_same, number-some, option_and_then, option_flatten, option_map, queue-set, refl, replicate, runner_at, set_number, slice_get, status_of, subst, suc, sym, weights-follow, with_lends, with_runner, without_runner, zero, ℕ, [], ◌-◌, ◌∙◌, ◌≡◌, ◌≤◌, ◌⊎◌}
 use Rattle.lot_threads.proofs.Running.{runs-changed}
 

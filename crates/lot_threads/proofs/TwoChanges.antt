@@ -1,4 +1,4 @@
--- What two changes of threads make stale together.
+-- The nodes that two changes of threads make stale together.
 use Rattle.lot_threads.proofs.Common.{Edge, IsStaleIn, Lend, List, LiveBetween, MakesStaleIn, Node, None, OfLender, OfMutex, OfTicket, Option, Record, Sizes, Some, Threaded, Ticket, WeighedBetween, ap, at_number, at_number-map, funding_in, inl, inr, is_live_status, lend_node, lend_of, live-between, live_in, makes-together, option_and_then, option_flatten, option_map, refl, some-injective, sym, target_node, weighed_of, ℕ, ◌∙◌, ◌≡◌, ◌⊎◌}
 use Rattle.lot_machine.specs.declared.funding.Node.TheVariants as node
 

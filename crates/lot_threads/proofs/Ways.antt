@@ -1,4 +1,4 @@
--- Ways from a thread that competes or runs: it lends to nobody, so no edge leads from it.
+-- Paths from a live thread: it lends to nobody, so no edge leads from it.
 use Rattle.lot_threads.proofs.Common.{Bool, CanLend, Funding, IsEdge, IsLive, IsLiveIn, IsThread, IsThreadOf, Lend, LendReaches, List, Nobody, Node, None, Option, Reaches, Record, Sizes, Some, Status, Threaded, ToThread, ap, arith, at_number, at_number-map, at_number-suc, false, funding_in, if◌then◌else◌, is_live_status, lend_node, lend_of, lends_in, length, length-map, live_in, option_map, refl, slice_get_within, some-injective, status_of, subst, suc, sym, true, zero, ℕ, [], ◌<◌, ◌∙◌, ◌∷◌, ◌≡◌, ◌≢◌, ◌≤◌}
 use Rattle.lot_machine.specs.declared.funding.Node.TheVariants as node
 use Rattle.lot_machine.specs.declared.record.Status.TheVariants as status

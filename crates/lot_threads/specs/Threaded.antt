@@ -1,4 +1,4 @@
--- The threads as the contracts of `Threads` see them.
+-- The threads in the contracts of `Threads`.
 use Rattle.std.specs.Prelude.{◌≡◌, Bool, ⊤, ◌⊎◌, ℕ, Option, Some, List, [], All, Contains, length, map, option_and_then}
 use Rattle.lot_machine.specs.declared.sizes.Sizes.{Sizes}
 use Rattle.lot_machine.specs.declared.funding.Node.{Node}
@@ -31,8 +31,8 @@ use Rattle.lot_threads.specs.Timely.{IsTimely}
 use Rattle.lot_threads.specs.Runners.{AreRunners}
 
 -- The existing currencies, the tickets, and the owner of each mutex; the limits on tickets, user currencies and
--- threads, the unit, the quantum, the number of processors, and the sizes by which threads lend; each thread's name and script,
--- and its record; the stale nodes; and the counts.
+-- threads, the unit, the quantum, the number of processors, and the sizes that decide lends; each thread's name and
+-- script, and its record; the stale nodes; and the counts.
 pub record Threaded : Type 0 where
   pub currencies : List Bool
   pub tickets : List (Option Ticket)
@@ -73,11 +73,11 @@ settled_in v = record v { stale = []; meter = record v.meter { ticket_reads = co
 abbrev pub IsThreadOf : Threaded → ℕ → Type 0
 IsThreadOf v t = IsBetween 1 (length v.records) t
 
--- the thread is live: it competes or runs
+-- the thread is live: Ready or Running
 abbrev pub IsLiveIn : Threaded → ℕ → Type 0
 IsLiveIn v t = IsLive (live_in v.records) t
 
--- the node is stale: its value is recomputed before it is used
+-- the node is stale: its cached value must be recomputed before use
 abbrev pub IsStaleIn : Threaded → Node → Type 0
 IsStaleIn v node = Contains v.stale node
 
@@ -112,8 +112,8 @@ abbrev pub MakesStaleIn : Threaded → Threaded → Type 0
 MakesStaleIn old new =
     (x : Node) → IsStaleIn new x → IsStaleIn old x ⊎ ((node : Node) × IsTouched (funding_in old) (funding_in new) (live_in old.records) (live_in new.records) node × PathLeads (funding_in old) (funding_in new) node x)
 
--- the change leaves the threads as they are: it sets neither a lend nor whether a thread is live, as these follow
--- from records
+-- the change leaves the threads alone: it sets neither a lend nor whether a thread is live, since these follow from
+-- records
 abbrev pub LeavesThreads : GraphChange → Type 0
 LeavesThreads (PutThread t lend live) = ⊥
 LeavesThreads other = ⊤
@@ -122,8 +122,8 @@ LeavesThreads other = ⊤
 abbrev pub applied_in : Threaded → GraphChange → List Node → Threaded
 applied_in v c stale = record v { currencies = currencies_after v.currencies c; tickets = tickets_after v.tickets c; owners = owners_after v.owners c; stale = stale }
 
--- Stale nodes stay stale, new ones are reached from touched nodes, none if the change moves nothing; both owners of a
--- mutex that moves are stale.
+-- Stale nodes stay stale, and touched nodes reach the new ones; there are none if the change moves nothing. Both owners
+-- of a mutex that moves are stale.
 pub record StaleByIn (change : GraphChange) (old new : Threaded) : Type 0 where
   pub kept : (node : Node) → IsStaleIn old node → IsStaleIn new node
   pub reached : MakesStaleIn old new

@@ -1,4 +1,4 @@
-//! Keeps the funding graph up to date with each thread: whether it is live, and its lend.
+//! Updates of the funding graph for each thread: whether it is live, and its lend.
 ghost use Rattle.std.specs.Prelude.{◌≡◌, ◌↔◌, ◌≤◌, Some, IsTrue};
 ghost use Rattle.lot_machine.specs.declared.funding.Node.TheVariants.{Thread as ThreadNode};
 ghost use Rattle.lot_machine.specs.Numbered.{at_number, set_number};
@@ -15,8 +15,8 @@ use lot_draw::Competitor;
 use lot_machine::{Lend, Limits, Node, Record, Status};
 use lot_value::{GraphChange, ValuedGraph};
 
-/// The receiver of a thread's lend: a served thread's server, a waiting thread's mutex, the holder of a queued thread's
-/// port if queued calls lend, or nobody, as always without lending (3.1, 4.6, 6.1).
+/// The receiver of a thread's lend: a served thread's server, a waiting thread's mutex, with `queued_lend` the holder
+/// of a queued thread's port, or nobody; in a kernel without lending always nobody (3.1, 4.6, 6.1).
 pub(crate) fn lend_of(limits: &Limits, status: Status) -> Lend
     ensures { result ≡ states.lend_of (sizes_of limits.now) status }
 {
@@ -33,7 +33,7 @@ pub(crate) fn lend_of(limits: &Limits, status: Status) -> Lend
     }
 }
 
-/// Whether a thread with this status is live: it competes or runs.
+/// Whether a thread with this status is live: Ready or Running.
 pub(crate) fn is_live(status: Status) -> bool
     ensures { result ≡ states.is_live_status status }
 {
@@ -78,7 +78,7 @@ pub(crate) fn competitor_of(of: Record) -> Option<Competitor>
     None
 }
 
-/// Whether any compensation is at least one tick, and a running thread has used less than the quantum.
+/// Whether a compensation, if any, is at least one tick, and a running thread has used less than the quantum.
 pub(crate) fn is_timely(of: Record, quantum: u32) -> bool
     ensures { IsTrue result ↔ IsTimely quantum of }
 {

@@ -47,7 +47,7 @@ impl Threads {
         before.delivered
     }
 
-    /// Takes a thread off its processor after these further ticks: it is Ready with this compensation (3.4, 4.2).
+    /// Takes a thread off its processor after `ticks` further ticks: it is Ready with this compensation (3.4, 4.2).
     #[inline(always)]
     pub fn stop(&mut self, thread: ThreadNumber, ticks: u32, compensation: Option<u32>)
         requires thread { IsThreadOf self.old thread.number }

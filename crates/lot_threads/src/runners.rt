@@ -7,7 +7,7 @@ ghost use Rattle.lot_threads.specs.Runners.{runner_at, with_runner, without_runn
 use lot_kept::Kept;
 use lot_machine::{Status, ThreadNumber, index_of};
 
-/// A thread that runs on a processor, and the ticks of its quantum that it has used there.
+/// A thread that runs on a processor, and the ticks of its quantum used there.
 #[derive(Clone, Copy, Debug, PartialEq, Eq)]
 pub struct Runner {
     pub thread: ThreadNumber,
@@ -15,7 +15,7 @@ pub struct Runner {
     pub used: u32,
 }
 
-/// Moves a thread from the processor on which it ran, if any, to the one on which it runs now, if any.
+/// Moves a thread from its processor before, if any, to its processor now, if any.
 pub(crate) fn move_runner(runners: &mut Kept<Option<u32>>, thread: u32, before: Status, now: Status)
     requires before { (p used : ℕ) → before ≡ Running p used → IsBetween 1 (length runners.old.items) p }
     requires now { (p used : ℕ) → now ≡ Running p used → IsBetween 1 (length runners.old.items) p }

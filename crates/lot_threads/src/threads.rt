@@ -40,7 +40,7 @@ use std::alloc::{AllocError, Global};
 use std::marker::Model;
 use std::mem::size_of;
 
-// The memory for a thread's name and record, and for a processor's running thread.
+// The bytes of a thread's name and record, and of a processor's running thread.
 const THREAD_BYTES: u64 = size_of::<Option<Thread>>() as u64 + size_of::<Record>() as u64;
 
 const RUNNER_BYTES: u64 = size_of::<Option<u32>>() as u64;
@@ -63,7 +63,7 @@ pub struct Threads {
     records: Stack<Record>,
     /// By processor, processor 1 first.
     runners: Kept<Option<u32>>,
-    /// By these blocked threads lend.
+    /// The sizes that decide to whom blocked threads lend.
     lending: Limits,
 }
 
@@ -113,7 +113,7 @@ impl Model for Threads {
 }
 
 impl Threads {
-    /// No thread yet, base alone, and free mutexes. Nothing has been counted.
+    /// No thread, base alone, free mutexes, and counts of 0. It fails only if out of memory.
     pub fn new(alloc: Global, limits: &Limits) -> Result<Threads, AllocError>
         ensures opening { IfOk result (λ made. made ≡ record {
           currencies = true ∷ [];
@@ -149,7 +149,7 @@ impl Threads {
         })
     }
 
-    /// The total of bytes that `new` requests from the allocator.
+    /// The number of bytes that `new` requests from the allocator.
     pub fn bytes(limits: &Limits) -> u64
         ensures { result ≡ 40 * limits.now.tickets + 70 * limits.now.currencies + 225 * limits.now.threads
             + 81 * holders (sizes_of limits.now) + 8 * limits.now.processors + 118 }
@@ -160,7 +160,7 @@ impl Threads {
             + RUNNER_BYTES * limits.processors as u64
     }
 
-    /// The bytes that it has room for: those that `new` requested, whatever has happened since.
+    /// The capacity in bytes: always exactly what `new` requested.
     pub fn held(&self) -> u64
         requires few { self.now.processors < 2 ^ 32 }
         ensures { result ≡ 40 * self.now.ticket_limit + 70 * self.now.currency_limit + 225 * self.now.thread_limit
@@ -194,8 +194,7 @@ impl Threads {
         ThreadNumber { number }
     }
 
-    /// Makes a thread with the number of one that was removed. It is Ready, and has won and used nothing. Computes no
-    /// value.
+    /// Makes a thread with the number of a removed one. It is Ready, and has won and used nothing. Computes no value.
     pub fn reuse_thread(&mut self, number: ThreadNumber, thread: Thread)
         requires there { IsThreadOf self.old number.number }
         ensures made { self.new ≡ record (with_records self.old
@@ -261,7 +260,7 @@ impl Threads {
         can_lend(&mut self.graph, thread.number, lend)
     }
 
-    /// Whether a thread may have this record, leaving its lend aside.
+    /// Whether a thread may have this record, apart from its lend.
     fn can_stand(&self, thread: u32, next: Record) -> bool
         ensures can { IsTrue result ↔ (IsThreadOf self.now thread × IsTimely self.now.quantum next
             × CanRun self.now thread next.status) }
@@ -321,8 +320,7 @@ impl Threads {
         self.queue.settle(&mut self.graph);
     }
 
-    /// The meter: the tickets, lends and owners read to compute values, and the visited places of the tree of
-    /// weights.
+    /// The meter: the tickets, lends and owners read to compute values, and the places visited in the tree of weights.
     pub fn meter(&self) -> Meter
         ensures { result ≡ self.now.meter }
     {
@@ -372,8 +370,8 @@ impl Threads {
         self.graph.value_of(Node::Thread(thread.number))
     }
 
-    /// A ticket's value (4.4), in base units, if its issuer isn't stale. For a ticket that funds something it counts
-    /// one read; any other is worth nothing.
+    /// A ticket's value (4.4), in base units, if its issuer isn't stale. It counts one read of a ticket that funds
+    /// something. A ticket that funds nothing is worth 0.
     pub fn ticket_value(&mut self, ticket: TicketNumber) -> u64
         requires fresh { (t : ATicket) → ticket_at (funding_in self.old) ticket.number ≡ Some t
             → ¬ IsStaleIn self.old (CurrencyNode t.issuer) }
@@ -390,8 +388,8 @@ impl Threads {
         self.graph.ticket_value(ticket.number)
     }
 
-    /// The value of a ticket (4.4), in base units, if nothing is stale; a ticket that funds nothing is worth nothing.
-    /// It counts no read.
+    /// A ticket's value (4.4), in base units, if nothing is stale. A ticket that funds nothing is worth 0. It counts no
+    /// read.
     pub fn settled_ticket_value(&self, ticket: TicketNumber) -> u64
         requires settled { self.now.stale ≡ [] }
         ensures { (t : ATicket) → ticket_at (funding_in self.now) ticket.number ≡ Some t
@@ -407,7 +405,7 @@ impl Threads {
         self.graph.is_settled()
     }
 
-    /// Whether a node is stale: its value is recomputed before it is used.
+    /// Whether a node is stale: its cached value must be recomputed before use.
     pub fn is_stale(&self, node: Node) -> bool
         requires node { IsNodeOf (limited_in self.now) node }
         ensures { IsTrue result ↔ IsStaleIn self.now node }
@@ -450,7 +448,7 @@ impl Threads {
         self.records.get(index_of(thread.number)).copied()
     }
 
-    /// Whether a thread is live: it competes or runs.
+    /// Whether a thread is live: Ready or Running.
     pub fn is_live(&self, thread: ThreadNumber) -> bool
         ensures { IsTrue result ↔ IsLiveIn self.now thread.number }
     {
@@ -460,8 +458,8 @@ impl Threads {
         }
     }
 
-    /// The thread that runs on the processor, or `None` if and only if it is idle. The ticks used are below the
-    /// quantum.
+    /// The thread that runs on the processor with the ticks of its quantum used, or `None` if and only if no thread
+    /// runs there.
     pub fn runner(&self, processor: Processor) -> Option<Runner>
         ensures thread { MatchOption result (thread_on self.now.records processor.number ≡ None)
             (λ r. thread_on self.now.records processor.number ≡ Some r.thread.number) }
@@ -483,7 +481,8 @@ impl Threads {
     }
 }
 
-/// The tables at the start: no threads, no records, and idle processors, with room for the largest number of threads.
+/// The tables at the start: no threads, no records, and idle processors, with capacity for the largest number of
+/// threads.
 fn opening_tables(
     alloc: Global,
     threads: usize,

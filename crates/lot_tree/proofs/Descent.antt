@@ -1,4 +1,4 @@
--- The descent that narrows the places in question, and where it ends.
+-- The descent that narrows the range of places, and its end.
 use Rattle.lot_tree.proofs.Common.{ArePartialSumsAt, IsFirstAbove, List, add-one, ap, arith, cases_lt, first_above, get_or, inl, inr, le-ltb, length, lt-ltb, mod_below, mul-le-mul_right, pow-suc, pow_pos, refl, running_sums, shr_split, suc, sum, sum_by-cons, sum_by-take-le, sym, take, take_all, zero, ℕ, [], ◌*◌, ◌+◌, ◌-◌, ◌/◌, ◌<◌, ◌^◌, ◌∷◌, ◌≡◌, ◌≤◌}
 use Rattle.lot_tree.proofs.Sums.{sum-take-le}
 use Rattle.lot_tree.proofs.Levels.{level-room}

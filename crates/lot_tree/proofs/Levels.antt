@@ -1,4 +1,4 @@
--- What a write of one weight and of the partial sums over it leaves true, level by level.
+-- The invariants after a write of one weight and of the partial sums over it, level by level.
 use Rattle.lot_tree.proofs.Common.{AreKept, ArePartialSumsAt, IsPartialSum, Kept, List, add-one, ap, arith, bit_at, bit_at-trailing_ones, bit_at_cat_low, bit_at_ones, bit_or, cases_eq, cases_lt, div-add-mod', div-div-eq-div-mul, div-mul-add, get_or, get_or-set_other, get_or-set_same, inl, inr, length, length-set, mod_below, mul-le-mul_right, pow-add, pow-le-pow_right, pow-suc, pow_pos, refl, same_from_place, set, subst, suc, sum, sum_by-set, sum_by-take-le, sym, take, trailing_ones, w64, zero, ℕ, ◌%◌, ◌*◌, ◌+◌, ◌-◌, ◌/◌, ◌<◌, ◌^◌, ◌∙◌, ◌≡◌, ◌≢◌, ◌≤◌, ◌⊎◌}
 use Rattle.lot_tree.proofs.Digits.{ones-least, or-next}
 use Rattle.lot_tree.proofs.Sums.{sum-take-le, sum-take-set, sum-take-set_past, weight-le}

@@ -1,4 +1,4 @@
--- The sum of the first weights of a list, and what a write leaves of it.
+-- The sum of the first weights of a list, before and after a write.
 use Rattle.lot_tree.proofs.Common.{List, ap, arith, get_or, length, set, suc, sum, sum_by-cons, sum_by-take-le, sum_by_more, take, take-set-le, take-take, zero, ℕ, [], ◌+◌, ◌<◌, ◌∷◌, ◌≡◌, ◌≤◌}
 
 -- more weights have no smaller sum

@@ -1,4 +1,4 @@
--- How many partial sums a descent reads: at most one a level, and one at the top level.
+-- The number of partial sums that a descent reads: at most one a level, and one at the top level.
 use Rattle.lot_tree.proofs.Common.{CountsReads, add-one, arith, cases_lt, counted_up, inl, inr, pow-le-pow_right, pow-suc, suc, ℕ, ◌*◌, ◌+◌, ◌<◌, ◌^◌, ◌≡◌, ◌≤◌, ◌⊎◌}
 
 -- a descent that has read nothing is at its start

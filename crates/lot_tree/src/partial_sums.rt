@@ -1,4 +1,4 @@
-//! The partial sums of a tree, readable only by a call that counts the read.
+//! The partial sums of a tree. A read needs a call that counts it.
 ghost use Rattle.std.specs.Prelude.{◌≡◌, ℕ, ◌+◌, ◌-◌, ◌*◌, ◌^◌, ◌<◌, ◌≤◌, length, min, sum, slice_index, slice_set};
 ghost use Rattle.std.specs.Prelude.{IfOk, replicate};
 ghost use Rattle.lot_tree.specs.Sums.{AreKept, ArePartialSumsAt};
@@ -8,11 +8,11 @@ use std::alloc::{AllocError, Global};
 use std::marker::Model;
 use std::mem::size_of;
 
-// The memory of one partial sum.
+// The bytes of one partial sum.
 const SUM_BYTES: u64 = size_of::<u128>() as u64;
 
-/// The partial sums of weights. Only blocks of fewer than 2^height places keep theirs, and the first 2^height places
-/// have all the weight. So a tree with room for many places is only as high as the used places require. Outside this
+/// The partial sums of weights. Only blocks of fewer than 2 ^ height places keep theirs, and the first 2 ^ height
+/// places have all the weight. So a tree with many places is only as high as the used ones require. Outside this
 /// module, `read` is the only way to a partial sum.
 #[derive(Debug, Drop)]
 pub(crate) struct PartialSums {
@@ -29,7 +29,7 @@ impl Model for PartialSums {
 }
 
 impl PartialSums {
-    /// Partial sums of 0 for `n` places, or an error if out of memory.
+    /// Partial sums of 0 for `n` places. It fails only if out of memory.
     pub(crate) fn new(alloc: Global, n: usize) -> Result<PartialSums, AllocError>
         ensures { IfOk result (λ made. made ≡ record { sums = replicate n 0; height = min n 1 }) }
     {
@@ -48,7 +48,7 @@ impl PartialSums {
         SUM_BYTES * n as u64
     }
 
-    /// The number of bytes that it has room for: those that `new` requested.
+    /// The capacity in bytes: always exactly what `new` requested.
     pub(crate) fn held(&self) -> u64
         requires few { length self.now.sums < 2 ^ 40 }
         ensures { result ≡ 16 * length self.now.sums }
@@ -71,8 +71,8 @@ impl PartialSums {
         self.height
     }
 
-    /// The partial sum at `place`, which is less than the number of places. Adds one to `visits`, which is less than
-    /// the largest `u64`.
+    /// The partial sum at `place`, which must be below the number of places. It adds one to `visits`, which must be
+    /// below the largest `u64`.
     pub(crate) fn read(&self, place: usize, visits: &mut u64) -> u128
         requires within { place < length self.now.sums }
         requires room { visits.old < 2 ^ 64 - 1 }
@@ -125,7 +125,7 @@ fn set_partial_sums(sums: &mut [u128], weights: &[u128], i: usize, w: u128, heig
     while last < end {
         sums[last] = sums[last] - old + w;
         // The levels up to the lowest binary digit 0 of `last` are done, or have `i` in an odd block, which keeps no
-        // partial sum. With a 1 there `last` is the last place of the block of `i` one level further up.
+        // partial sum. With a 1 in that digit `last` is the last place of the block of `i` one level further up.
         last |= last + 1;
     }
 }

@@ -1,4 +1,4 @@
--- A ticket gets another amount: it funds nothing for a while, and then the same again.
+-- Another amount of a ticket: it funds nothing in between, and then the same target again.
 use Rattle.lot_value.proofs.Common.{Activity, AreTogether, ChainLeads, Currency, Edge, EdgeEnds, FollowsGraph, Funding, FundsFrom, FundsThere, HasEquation, HasNoCycle, IsCycle, IsFunding, IsTarget, IsTrue, Known, LimitedFunding, List, Node, None, OfLender, OfMutex, OfTicket, Option, Some, Target, Thread, Ticket, Valued, WeighedBetween, ap, arith, at_number, chain-path, ends_of_edge, flatten-some, inl, inr, is_funding, issuer_of, number-kept, number-set, number-set_same, number-there, option_and_then, option_any, option_flatten, option_map, path-chain, path-fewer, refl, reissued, retargeted, set-twice, set_number, some-injective, subst, suc, sym, target_node, target_of, ticket-ends, ticket_at, ticket_in, weighed_of, with_amount, with_target, with_tickets, ℕ, [], ◌-◌, ◌∙◌, ◌∷◌, ◌≡◌, ◌≢◌, ◌⊎◌}
 use Rattle.lot_machine.specs.declared.ticket.Target.TheVariants as target
 use Rattle.lot_value.proofs.Ends.{there-edge}

@@ -1,4 +1,4 @@
--- Counts that go on.
+-- Sums of counts.
 use Rattle.lot_value.proofs.Common.{ap, arith, counted_up, min, refl, suc, zero, ℕ, ◌+◌, ◌-◌, ◌<◌, ◌^◌, ◌≡◌}
 
 counted-some : (count more : ℕ) → 0 < more → counted_up count more ≡ min (count + more) (2 ^ 64 - 1)

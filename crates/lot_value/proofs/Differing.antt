@@ -1,4 +1,4 @@
--- Which equations a change leaves.
+-- The equations that a change leaves.
 use Rattle.lot_value.proofs.Common.{Activity, Bool, ChangesNodes, Contains, CoversChange, Currency, Edge, EdgeEnds, Funding, HasEquation, HasSameEquation, IsActive, IsActiveNode, IsEdge, IsKeptFor, IsNodeOf, IsNodeWithin, IsSound, IsTrue, Layout, LeadsInto, LimitedFunding, List, Node, OfLender, OfMutex, OfTicket, Option, Some, Ticket, TouchesListed, active-ticket, active_amount, adjusted_nodes, ap, cases_eq, counted_amount, edge_between, ends_of, ends_of_edge, false, inl, inr, is_active, is_active-exact, kept-node, kept-shares, layout_of, mark_of, node_place, option_map, refl, share, some-injective, subst, switched_nodes, sym, ticket-active, ticket-ends, ticket_at, true, unwrap_or, ℕ, ◌*◌, ◌/◌, ◌↔◌, ◌∙◌, ◌≡◌, ◌≢◌, ◌⊎◌}
 use Rattle.lot_value.proofs.Ends.{edge-there, there-edge}
 use Rattle.lot_value.proofs.Nodes.{node-number, contains-or, node-within, within-node}

@@ -1,4 +1,4 @@
--- What is kept together follows each change.
+-- Graph, activity and values together follow each change.
 use Rattle.lot_value.proofs.Common.{Activity, All, AreTogether, AwakeAre, Bool, ChangesNodes, Contains, Currency, Edge, FitsLimits, Follows, Funding, HasEquation, IfSome, IsChangedLife, IsChangedNode, IsEdge, IsKeptFor, IsListed, IsLive, IsNodeWithin, IsPath, IsRight, IsSmall, IsStale, IsThread, IsTouched, IsUnit, IsUser, IsWay, Known, LimitedFunding, List, Mutex, Node, None, OfLender, OfMutex, OfTicket, Option, PathLeads, Reaches, Some, SwitchesNode, Thread, Ticket, Touched, TouchesListed, active-bounded, ap, append-nil, arith, at_number, at_number-suc, awake_at, edges_into, ends_of, ends_of_edge, false, get_or_from_slice_get, inl, inr, into-once, layout_of, lender-ends, length, length-replicate, length-set, live_of, map, mutex-ends, node_count, node_place, numbers, opening_funding, option_flatten, owner_of, range_with_len, refl, replicate, set-same, set_number, slice_get, slice_get-get_or, slice_get_within, slice_index, slice_index_or, slice_set, some-injective, subst, suc, sum_by, switched_nodes, sym, target_node, ticket-ends, ticket_at, true, zero, ℕ, [], ◌++◌, ◌+◌, ◌-◌, ◌<◌, ◌^◌, ◌∙◌, ◌∷◌, ◌≡◌, ◌≤◌, ◌⊎◌}
 use Rattle.lot_value.proofs.Listed.{contains-first}
 use Rattle.lot_value.proofs.Mapped.{length-mapped}

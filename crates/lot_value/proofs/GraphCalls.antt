@@ -1,4 +1,4 @@
--- What the calls of a graph are to what is kept together.
+-- The calls of a graph as changes of graph, activity and values together.
 use Rattle.lot_value.proofs.Common.{Activity, AddsEdge, AreTogether, Bool, ChangesNodes, Currency, Edge, EdgeEnds, FitsLimits, Follows, Funding, HasEquation, IsBorrower, IsEdge, IsKeptFor, IsListed, IsMutex, IsNodeWithin, IsRight, IsStale, IsTarget, IsThread, IsTouched, IsUnit, Known, Layout, Lend, LimitedFunding, List, Mutex, Nobody, Node, None, OfLender, OfMutex, OfTicket, Option, PathLeads, Some, StandsFor, Target, Thread, ToMutex, ToThread, Touched, TouchesListed, ap, arith, at_number, counted_amount, disown-edge, edge_between, ends-mutex, ends_of_edge, free-kept, fund-edge, lend-edge, lend_node, lender-ends, length, length-set, live_of, mutex-ends, own-edge, owner_of, refl, set_number, some-injective, subst, sym, target-ticket, target_node, target_of, ticket-ends, unfund-edge, unlend-edge, with_lends, with_owners, with_target, with_tickets, ℕ, ◌-◌, ◌∙◌, ◌≡◌, ◌⊎◌}
 use Rattle.lot_machine.specs.declared.ticket.Target.TheVariants as target
 use Rattle.lot_value.proofs.Ends.{edge-there, there-edge}

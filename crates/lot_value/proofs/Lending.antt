@@ -1,4 +1,4 @@
--- Edges when a thread lends to nobody, between two lends.
+-- The edges while a thread lends to nobody, between two lends.
 use Rattle.lot_value.proofs.Common.{Bool, CanLend, Edge, Funding, IsMutex, IsThread, IsTrue, IsWay, Lend, LendReaches, LimitedFunding, List, Nobody, Node, None, OfLender, OfMutex, OfTicket, Option, Reaches, Some, ToMutex, ToThread, WeighedBetween, ap, arith, at_number, at_number-suc, ends_of, false, get_or, inl, inr, lend_node, length, not, number-kept, number-set, number-set_same, number-there, option_and_then, option_map, refl, set-twice, set_number, slice_get, slice_get_read, some-injective, subst, suc, sym, true, weighed_of, with_lends, zero, ℕ, [], ◌-◌, ◌<◌, ◌↔◌, ◌∙◌, ◌∷◌, ◌≡◌, ◌≤◌, ◌⊎◌}
 use Rattle.lot_machine.specs.declared.funding.Node.TheVariants as node
 

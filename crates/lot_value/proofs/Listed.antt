@@ -1,4 +1,4 @@
--- What lists contain, and the one list of the stale nodes after a push, a removal and a move.
+-- The elements of lists, and the list of the stale nodes after a push, a removal and a move.
 use Rattle.lot_value.proofs.Common.{Contains, Contains-append_left, Contains-append_right, Contains-push_cases, HasEachOnce, IsReordered, IsStaleList, List, NodeLists, Some, ap, append-nil, append_assoc, arith, cases_eq, contains-at, get_or-set_same, get_or_from_slice_get, inl, inr, left-before, length, node_at, nodes_of, refl, remove, slice_get, slice_get_within, still-left, subst, suc, sum_by, sum_by-remove, sum_by_push, sym, with_pushed, with_removed, zero, ℕ, [], ◌++◌, ◌+◌, ◌<◌, ◌∙◌, ◌∷◌, ◌≡◌, ◌⊎◌}
 
 -- ---- what a list contains

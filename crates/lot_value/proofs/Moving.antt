@@ -1,4 +1,4 @@
--- A mutex that moves from one live thread to another: who is active stays as it is, and both owners are touched.
+-- A mutex that moves from one live thread to another: activity stays the same, and both owners are touched.
 use Rattle.lot_value.proofs.Common.{Activity, AddsEdge, AreTogether, Bool, ChangesNodes, Contains, Currency, Edge, EdgeEnds, FitsLimits, Follows, HasEquation, IsChangedEdge, IsEdge, IsKeptFor, IsLive, IsMutex, IsNodeOf, IsNodeWithin, IsRight, IsSound, IsStale, IsThread, IsTouched, IsWay, Known, Layout, LimitedFunding, List, Mutex, Node, None, OfMutex, Option, PathLeads, Reaches, Some, Thread, Touched, TouchesListed, ap, arith, at_number, contains-nothing, disown-edge, edge_between, ends_of, ends_of_edge, inl, inr, layout_of, length, length-set, live_of, moved-changes, moved-kept, number-set_same, only-there, option_flatten, own-edge, owner_of, refl, set_number, subst, sym, unlisted, with_owners, ℕ, [], ◌-◌, ◌∙◌, ◌∷◌, ◌≡◌, ◌≢◌, ◌⊎◌}
 use Rattle.lot_value.proofs.Ends.{edge-there, there-edge, to-is}
 use Rattle.lot_value.proofs.Following.{right-follows, reach-path}

@@ -1,4 +1,4 @@
--- What is kept together follows an edge that comes or goes.
+-- Graph, activity and values together follow an edge that comes or goes.
 use Rattle.lot_value.proofs.Common.{Activity, AddsEdge, Bool, ChangesNodes, Currency, Edge, EdgeEnds, Funding, HasEquation, IsChangedEdge, IsEdge, IsKeptFor, IsListed, IsRight, IsStale, IsTouched, Known, LimitedFunding, List, Mutex, Node, None, OfLender, OfMutex, OfTicket, PathLeads, Reaches, Some, StandsFor, Thread, Touched, TouchesListed, ap, arith, ends_of, ends_of_edge, inl, inr, layout_of, length, only-there, refl, subst, sym, [], ◌∙◌, ◌≡◌, ◌⊎◌}
 use Rattle.lot_value.proofs.Ends.{edge-there, there-edge, to-is}
 use Rattle.lot_value.proofs.Nodes.{same-or-not as same-node}

@@ -1,4 +1,4 @@
--- How the stale sources of a node come to the back of the list.
+-- The stale sources of a node, moved to the back of the list.
 use Rattle.lot_value.proofs.Common.{Bool, Contains, Contains-push_cases, Edge, Funding, HasEachOnce, HasSameSize, IfNone, IsConsistent, IsEdge, IsFree, IsRaising, IsReordered, IsStaleList, Layout, LeadsFromPlace, LeadsInto, List, Node, NodeLists, None, OnFalse, OnTrue, Option, Some, ap, arith, contains-nothing, ends_of, false, inl, inr, is_some, last_of, length, length-set, length_push, node_at, node_place, nodes_of, pair, refl, remove, slice_get, some-injective, subst, sym, true, with_pushed, with_removed, ℕ, [], ◌++◌, ◌-◌, ◌∙◌, ◌∷◌, ◌≡◌, ◌⊎◌}
 use Rattle.lot_value.proofs.Listed.{last-pushed, moved-is, reordered-move, reordered-same, reordered-then}
 

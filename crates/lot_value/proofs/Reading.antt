@@ -1,4 +1,4 @@
--- Sums over the edges into a node, some of which were read.
+-- Sums over the edges into a node, with some of them read.
 use Rattle.lot_value.proofs.Common.{Edge, Funding, HasEachOnce, LeadsInto, List, Node, ap, arith, edge_count_into, edges-many, edges_into, into-sums, length, refl, sum_by, sum_by-append, sum_by-cons, sym, ℕ, [], ◌++◌, ◌+◌, ◌∙◌, ◌∷◌, ◌≡◌, ◌≤◌}
 use Rattle.lot_value.proofs.Listed.{each-done}
 

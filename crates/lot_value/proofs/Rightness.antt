@@ -1,4 +1,4 @@
--- What is right of values that are kept: what they are worth, and what is right after a touch.
+-- Right values: their meaning, and rightness after a touch.
 use Rattle.lot_value.proofs.Common.{Bool, Contains, Contains-append_left, Contains-append_right, Currency, DiffersAt, Edge, FitsIn, FitsLimits, Funding, HasEquation, IsEdge, IsNodeOf, IsNodeWithin, IsRight, IsRightBut, IsSmall, IsSound, IsStale, IsWay, Known, Layout, LeadsToPlace, LimitedFunding, List, Marks, MarksNodes, Mutex, Node, OfLender, OfMutex, OfTicket, Reaches, Some, Thread, ap, arith, contains-mapped, contains-nothing, ends-are, ends_of, inl, inr, layout_of, length, map, mapped-contains, node-back, node-bounded, node_count, node_of, node_place, node_value, number-within, refl, same-shares, shares_into, solution, subst, sym, value_in, values-solve, ℕ, [], ◌++◌, ◌<◌, ◌^◌, ◌∙◌, ◌∷◌, ◌≡◌, ◌≢◌, ◌⊎◌}
 use Rattle.lot_value.proofs.Listed.{contains-cases}
 use Rattle.lot_value.proofs.Nodes.{node-number, contains-or, node-within, within-node}

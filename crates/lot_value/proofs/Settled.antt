@@ -1,4 +1,4 @@
--- The next node to settle, and what is right when it is.
+-- The next node to settle, and its right value afterwards.
 use Rattle.lot_value.proofs.Common.{Bool, Contains, FitsIn, FitsLimits, Funding, HasNoCycle, IfSome, IsEdge, IsFree, IsFreshPlace, IsNodeOf, IsNodeWithin, IsReordered, IsRight, IsStale, IsStaleList, Known, Layout, LeadsFromPlace, LimitedFunding, List, Node, NodeLists, None, Option, Settles, Some, ap, arith, contains-at, contains-later, contains-mapped, contains-nothing, counted_up, edge_count_into, edges_into_all, get_or-set_at, get_or-set_other, inl, inr, is_some, kept_worth, layout_of, left-before, length, length-set, list-back, map, mapped-at, mapped-contains, node-back, node_at, node_count, node_of, node_place, nodes_of, refl, remove, same-list, same-shares, set, shares_into, slice_get, slice_index, still-left, subst, suc, sum_by, sym, true, value_in, with_removed, zero, ℕ, [], ◌+◌, ◌-◌, ◌<◌, ◌∙◌, ◌∷◌, ◌≡◌, ◌⊎◌}
 use Rattle.lot_value.proofs.Rank.{rank, rank-rises}
 use Rattle.lot_value.proofs.Counting.{counted-more}

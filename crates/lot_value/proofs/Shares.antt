@@ -1,4 +1,4 @@
--- What the edge of a ticket passes on, by what is kept of its activity.
+-- The share that a ticket's edge passes on, by its stored activity.
 use Rattle.lot_value.proofs.Common.{Activity, Bool, Currency, Edge, FitsLimits, Funding, IsActive, IsKeptFor, IsTrue, LeadsInto, LimitedFunding, List, Node, OfLender, OfMutex, OfTicket, Option, Some, Ticket, active_amount, ap, ends-are, ends_of, eqb-false, eqb-true, false, is_active, is_active-exact, issuer-amount, option_map, refl, share, some-injective, subst, sym, target_of, ticket-ends, ticket_at, ticket_share, true, unwrap_or, ℕ, ◌*◌, ◌/◌, ◌==◌, ◌↔◌, ◌∙◌, ◌≡◌, ◌≢◌, ◌≤◌}
 use Rattle.lot_value.proofs.Nodes.{node-number}
 

@@ -1,4 +1,4 @@
--- How marks spread from a node that is touched.
+-- Marks that spread from a touched node.
 use Rattle.lot_value.proofs.Common.{Bool, Contains, Contains-append_left, Contains-append_right, Contains-push_cases, Currency, Edge, FitsIn, Funding, HasEachOnce, IfNone, IfSome, IsConsistent, IsEdge, IsFree, IsIssuedIn, IsNodeWithin, IsSome, Layout, LeadsOutOf, LeadsToPlace, List, Marks, Mutex, Node, NodeLists, None, OfLender, OfMutex, OfTicket, Option, Reaches, Some, Spreads, Thread, Ticket, ap, arith, cases_eq, cases_lt, contains-at, contains-nothing, edge-reaches, ends-ticket, ends_of, false, get_or, inl, inr, is_some, issuer-of, lender-ends, length, map, map-append, mapped-contains, mutex-ends, node-back, node_at, node_of, node_place, nodes_of, not, only-list, option_and_then, option_map, pair, place-after, place-in, reaches-then, refl, slice_get, slice_get-get_or, slice_get_within, some-injective, subst, suc, sym, target_node, ticket-ends, ticket_at, true, with_pushed, zero, ℕ, [], ◌++◌, ◌+◌, ◌-◌, ◌<◌, ◌∙◌, ◌∷◌, ◌≡◌, ◌≤◌, ◌⊎◌}
 use Rattle.lot_value.proofs.Listed.{contains-first, last-pushed, pushed-is}
 

@@ -1,4 +1,4 @@
--- What a ticket is worth, by the values that are kept.
+-- A ticket's value, by the cached values.
 use Rattle.lot_value.proofs.Common.{Bool, Contains, Currency, Edge, FitsLimits, Funding, IsFunding, IsRight, IsSmall, IsSound, IsStale, IsTrue, Known, Layout, LimitedFunding, List, Node, OfTicket, Option, Some, Target, Ticket, activates_within, active_amount, ap, arith, backing_currency, currency_value, edges_into, ends-ticket, ends_of, eqb-false, false, funding-ticket, get_or-le-sum_by, if◌then◌else◌, into-once, is_active, is_funding, is_unfunded, kept_worth, length, node-bounded, node_value, not, option_any, option_map, other_ticket, refl, share, some-injective, subst, suc, sum_by, sym, target_node, ticket-is, ticket_at, ticket_share, ticket_value, ticket_value_within, true, unwrap_or, user_currency_count, value_in, values-solve, zero, ℕ, ◌*◌, ◌/◌, ◌<◌, ◌==◌, ◌^◌, ◌∙◌, ◌≡◌, ◌≤◌}
 use Rattle.lot_machine.specs.declared.ticket.Target.TheVariants as target
 use Rattle.lot_value.proofs.Rightness.{has-not-base, right-worth}

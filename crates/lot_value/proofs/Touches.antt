@@ -1,4 +1,4 @@
--- What several touches come to.
+-- The effect of several touches.
 use Rattle.lot_value.proofs.Common.{Activity, Bool, Contains, Contains-append_right, Contains-push_cases, Currency, Edge, Funding, HasEquation, IsEdge, IsFundedBy, IsListed, IsRightBut, IsStale, IsSwitchedOrFunded, IsUser, Known, LimitedFunding, List, Node, Reaches, Some, Touched, TouchesListed, adjusted_nodes, ap, append-nil, contains-later, ends_of, inl, inr, pair, refl, some-injective, subst, switched_nodes, sym, ℕ, [], ◌++◌, ◌∙◌, ◌∷◌, ◌≡◌, ◌≢◌, ◌⊎◌}
 use Rattle.lot_value.proofs.Listed.{contains-first}
 

@@ -1,4 +1,4 @@
--- What two changes of a graph make stale together.
+-- The nodes that two changes of a graph make stale together.
 use Rattle.lot_value.proofs.Common.{Bool, FollowsGraph, Funding, IsStale, IsTouched, Known, LimitedFunding, List, LiveBetween, MakesStale, Node, PathLeads, Valued, WeighedBetween, ap, at_number, edges-between, inl, inr, leads-first, leads-second, live-between, subst, sym, touched-first, touched-second, weighed_of, ◌∙◌, ◌≡◌, ◌⊎◌}
 
 -- what two steps make stale, given what is stale before, between and after them

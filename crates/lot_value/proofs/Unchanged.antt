@@ -1,4 +1,4 @@
--- What is kept together follows a change that moves no edge and switches nothing.
+-- Graph, activity and values together follow a change that moves no edge and switches no node.
 use Rattle.lot_value.proofs.Common.{Activity, AreTogether, Bool, CoversChange, Currency, Edge, FitsLimits, Funding, HasEquation, IsActive, IsActiveNode, IsKeptFor, IsNodeOf, IsNodeWithin, IsRight, IsSound, Known, Layout, LimitedFunding, List, Mutex, Nobody, Node, None, OfTicket, Some, Thread, Ticket, active-ticket, active_amount, again-ends, again-kept, ap, arith, at_number, counted_amount, currencies-kept, destroy-ends, destroy-kept, edge_between, ends_of, ends_of_edge, false, inl, issue-ends, issue-kept, kept-amount, kept-node, layout_of, length, length_push, live_of, mark_of, node_place, refl, set_amount-ends, set_amount-kept, set_number, subst, sym, target-ticket, target_of, thread-ends, thread-kept, ticket-active, ticket-ends, with_amount, with_currencies, with_lends, with_new_ticket, with_tickets, without_ticket, ℕ, [], ◌++◌, ◌+◌, ◌↔◌, ◌∙◌, ◌∷◌, ◌≡◌, ◌≤◌}
 use Rattle.lot_machine.specs.declared.ticket.Target.TheVariants as target
 use Rattle.lot_value.proofs.Ends.{edge-there, there-edge}

@@ -43,8 +43,8 @@ kept_worth l values node = slice_index values (node_place l node)
 abbrev pub value_in : Known → Node → ℕ
 value_in c node = kept_worth c.layout c.values node
 
--- The cache is right except at these nodes: any other that isn't stale has no stale source, and its value is the sum
--- that the edges into it pass on (4.4).
+-- The cache is right except at these nodes: any other node that isn't stale has no stale source, and its value is the
+-- sum that the edges into it pass on (4.4).
 pub record IsRightBut (w : LimitedFunding) (live : List Bool) (c : Known) (pending : List Node) : Type 0 where
   pub layout : c.layout ≡ layout_of w
   pub places : length c.values ≡ node_count c.layout
@@ -90,8 +90,8 @@ pub record DiffersAt (unit : ℕ) (before : LimitedFunding) (live_before : List 
   pub there : (node : Node) → HasEquation before.funding node → HasEquation after.funding node
   pub same : (node : Node) → ¬ Contains changed node → HasSameEquation unit before.funding live_before after.funding live_after node
 
--- Each edge that changes, each ticket that becomes active or inactive, and each of a user currency whose active
--- amount changes lead to these nodes.
+-- These nodes are the targets of each edge that changes, each ticket that becomes active or inactive, and each ticket
+-- of a user currency whose active amount changes.
 pub record CoversChange (before : Funding) (live : List Bool) (after : Funding) (now : List Bool) (changed : List Node) : Type 0 where
   pub edges : (edge : Edge) → (ends_of_edge after edge ≡ ends_of_edge before edge) ⊎ ((from to : Node) → (ends_of before edge ≡ Some (from, to)) ⊎ (ends_of after edge ≡ Some (from, to)) → Contains changed to)
   pub marks : (n : ℕ) (from to : Node) → ends_of after (OfTicket n) ≡ Some (from, to) → (IsActive before live n ↔ IsActive after now n) ⊎ Contains changed to

@@ -57,7 +57,7 @@ graph_after w c = record w { funding = record { currencies = currencies_after w.
 abbrev pub applied : Valued → GraphChange → List Node → Valued
 applied v c stale = record { now = graph_after v.now c; live = live_after v.live c; known = record v.known { stale = stale } }
 
--- the change moves no edge, and makes no thread live or not
+-- the change moves no edge, and makes no thread live or ends that
 abbrev pub MovesNothing : GraphChange → Type 0
 MovesNothing (NewTicket t) = ⊤
 MovesNothing (ReuseTicket n t) = ⊤
@@ -72,8 +72,8 @@ abbrev pub HoldsOfOwners : GraphChange → (Node → Type 0) → Type 0
 HoldsOfOwners (MoveOwner m owner next) Is = Is (Thread owner) × Is (Thread next)
 HoldsOfOwners other Is = ⊤
 
--- Stale nodes stay stale, new ones are reached from touched nodes, none if the change moves nothing; both owners of a
--- mutex that moves are stale.
+-- Stale nodes stay stale, and touched nodes reach the new ones; there are none if the change moves nothing. Both owners
+-- of a mutex that moves are stale.
 pub record StaleBy (change : GraphChange) (old new : Valued) : Type 0 where
   pub kept : (node : Node) → IsStale old.known node → IsStale new.known node
   pub reached : MakesStale old new
@@ -86,8 +86,8 @@ CanLend f t Nobody = ⊤
 CanLend f t (ToThread s) = IsBorrower f (ToThread s) × (¬ LendReaches f (ToThread s) t)
 CanLend f t (ToMutex m) = IsBorrower f (ToMutex m) × (¬ LendReaches f (ToMutex m) t)
 
--- a ticket with the first target may get the second: one without a target gets one that makes no cycle, or one loses
--- its target
+-- a ticket with the first target may get the second: a ticket without a target gets one that makes no cycle, or a
+-- ticket loses its target
 abbrev pub CanTarget : Funding → ℕ → Target → Target → Type 0
 CanTarget f n before target.Unfunded = before ≢ target.Unfunded
 CanTarget f n before to = (before ≡ target.Unfunded) × IsTarget f to × (¬ IsCycle f n to)

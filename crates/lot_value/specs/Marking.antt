@@ -38,8 +38,8 @@ pub record Spreads (old new : NodeLists) (IsSo : ℕ → Type 0) : Type 0 where
   pub each : (x : ℕ) → Contains (nodes_of new 0) x → Contains (nodes_of old 0) x ⊎ IsSo x
   pub all : (x : ℕ) → IsSo x → Contains (nodes_of new 0) x
 
--- The node is marked with all that it reaches: stale nodes remain stale, no other becomes so, and an edge out of the
--- stale nodes led out of them before.
+-- The node is marked with all nodes that it reaches: stale nodes remain stale, no other node becomes so, and an edge
+-- out of the stale nodes led out of them before.
 pub record Marks (l : Layout) (f : Funding) (old new : List ℕ) (node : Node) : Type 0 where
   pub kept : (x : ℕ) → Contains old x → Contains new x
   pub marked : Contains new (node_place l node)
@@ -64,7 +64,7 @@ abbrev pub last_of : NodeLists → Option ℕ
 last_of v = node_at v 0 (length (nodes_of v 0) - 1)
 
 -- Some edges into a node were seen, and their stale sources moved: if there was one, the place at the back is a
--- source's, and otherwise the list is unchanged.
+-- source's, otherwise the list is unchanged.
 pub record IsRaising (l : Layout) (f : Funding) (node : Node) (old now : NodeLists) (seen : List Edge) (raised : Bool) : Type 0 where
   pub reordered : IsReordered (nodes_of old 0) (nodes_of now 0)
   pub source : raised ≡ true → (place : ℕ) × (last_of now ≡ Some place) × LeadsFromPlace l f place node

@@ -9,8 +9,8 @@ use Rattle.lot_active.specs.Activity.{Activity}
 use Rattle.lot_active.specs.Changes.{switched_nodes, adjusted_nodes}
 use Rattle.lot_value.specs.Caches.{Known, IsStale, IsRightBut}
 
--- Only nodes with this property were touched: right values and stale nodes remain so, and new stale nodes are reached
--- from a touched one.
+-- Only nodes with this property were touched: right values stay right, stale nodes stale, and touched nodes reach the
+-- new stale ones.
 pub record Touched (w : LimitedFunding) (old new : Known) (IsSuch : Node → Type 0) : Type 0 where
   pub right : (live : List Bool) (pending : List Node) → IsRightBut w live old pending → IsRightBut w live new pending
   pub kept : (x : Node) → IsStale old x → IsStale new x

@@ -1,4 +1,4 @@
--- A valued graph as the contracts of `ValuedGraph` see it, and its invariant.
+-- A valued graph in the contracts of `ValuedGraph`, and its invariant.
 use Rattle.std.specs.Prelude.{◌≡◌, ◌⊎◌, ◌≤◌, Bool, List, map, length}
 use Rattle.lot_machine.specs.declared.funding.Node.{Node}
 use Rattle.lot_machine.specs.declared.funding.Node.TheVariants.{Thread}
@@ -36,8 +36,8 @@ abbrev pub MakesStale : Valued → Valued → Type 0
 MakesStale old new =
     (x : Node) → IsStale new.known x → IsStale old.known x ⊎ ((node : Node) × IsTouched old.now.funding new.now.funding old.live new.live node × PathLeads old.now.funding new.now.funding node x)
 
--- The new graph and live threads are these. No value is computed; stale nodes remain stale, and new ones are reached
--- from touched nodes.
+-- The new graph and live threads are these. It computes no value; stale nodes remain stale, and touched nodes reach the
+-- new ones.
 pub record Becomes (old new : Valued) (graph : LimitedFunding) (lives : List Bool) : Type 0 where
   pub now : new.now ≡ graph
   pub live : new.live ≡ lives
@@ -53,8 +53,8 @@ FollowsGraph old new graph = Becomes old new graph old.live
 abbrev pub FollowsLives : Valued → Valued → List Bool → Type 0
 FollowsLives old new lives = Becomes old new old.now lives
 
--- Activity and values match the second graph, in which these threads are live, and new stale nodes are reached from
--- nodes that the change touches.
+-- Activity and values match the second graph, in which these threads are live, and nodes that the change touches reach
+-- the new stale ones.
 pub record Follows (w now : LimitedFunding) (v new : Activity) (c known : Known) (after : List Bool) : Type 0 where
   pub together : AreTogether now new known
   pub live : live_of now new ≡ after

@@ -15,7 +15,7 @@ use lot_active::{Active, EdgeEnds, ends_of_edge};
 use lot_graph::Graph;
 use lot_machine::Edge;
 
-/// Takes account of an edge added to the graph.
+/// Updates activity and staleness for an edge added to the graph.
 #[inline(always)]
 pub(crate) fn attach(graph: &Graph, active: &mut Active, values: &mut Values, edge: Edge)
     requires before { (before : LimitedFunding) × (ends : Ends) × AddsEdge before graph.now edge ends
@@ -26,7 +26,7 @@ pub(crate) fn attach(graph: &Graph, active: &mut Active, values: &mut Values, ed
     ensures kept { (node : ANode) → IsStale values.old node → IsStale values.new node }
     ensures others { values.new ≡ record values.old { stale = values.new.stale } }
 {
-    // Looked up before anything is written, so that one look serves here and in `attach`, which is compiled in.
+    // Looked up before any write, so that one lookup serves here and in `attach`, which is inlined.
     let Some(ends) = ends_of_edge(graph, edge) else {
         unreachable!()
     };
@@ -35,7 +35,7 @@ pub(crate) fn attach(graph: &Graph, active: &mut Active, values: &mut Values, ed
     values.touch(graph, ends.to);
 }
 
-/// Takes account of an edge removed from the graph, given its former ends.
+/// Updates activity and staleness for an edge removed from the graph, given its former ends.
 #[inline(always)]
 pub(crate) fn detach(graph: &Graph, active: &mut Active, values: &mut Values, ends: EdgeEnds)
     requires sound { IsSound graph.now.funding }

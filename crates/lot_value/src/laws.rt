@@ -12,7 +12,7 @@ ghost use Rattle.lot_active.specs.Fundings.{IsKeptFor, ends_of_edge};
 ghost use Rattle.lot_value.specs.Caches.{Known, IsRightBut, DiffersAt, CoversChange, TouchesListed, HasSameEquation};
 
 /// Values right for one graph and its live threads are right for another, except at the nodes whose equations differ.
-/// So after all changes of an event each of these nodes is touched, in any order.
+/// So after all changes of an event a caller touches each of these nodes, in any order.
 pub fn changed_nodes_are_pending()
     ensures { (before after : LimitedFunding) (live now : List Bool) (c : Known) (pending changed : List Node)
         → IsRightBut before live c pending → DiffersAt c.unit before live after now changed

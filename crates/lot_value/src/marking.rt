@@ -13,7 +13,7 @@ use lot_graph::Graph;
 use lot_lists::Lists;
 use lot_machine::Node;
 
-// The only list: of the stale nodes.
+// The only list: the stale nodes.
 pub(crate) const STALE: usize = 0;
 
 /// Lists a node at the back, and with it all nodes that it reaches through unlisted nodes.
@@ -27,7 +27,7 @@ pub(crate) fn mark(graph: &Graph, stale: &mut Lists, node: Node)
 {
     let layout = graph.layout();
     let place = layout.list_of(node);
-    // Compiled into the caller, so that no call is made for a node that is listed already.
+    // Inlined, so that no call is made for a node that is listed already.
     if stale.list_of(place).is_some() {
         return;
     }

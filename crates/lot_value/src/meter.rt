@@ -1,6 +1,6 @@
 //! Counts of reads.
 
-/// The number of tickets, lends and owners read for values, and of visited places of trees of sums. Each count
+/// The counts of tickets, lends and owners read for values, and of places visited in the tree of weights. Each count
 /// saturates at the largest `u64`.
 #[derive(Clone, Copy, Debug, Default, PartialEq, Eq)]
 pub struct Meter {

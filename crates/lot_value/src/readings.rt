@@ -1,5 +1,5 @@
-//! Reads of edges for values. An event reads an edge only by `read_share`, which counts it. A row of a settled kernel
-//! takes its ticket's share from `ticket_share`, uncounted.
+//! Reads of edges for values. Events read edges only by `read_share`, which counts. A row of a settled kernel takes its
+//! ticket's share from `ticket_share`, which doesn't.
 ghost use Rattle.std.specs.Prelude.{◌≡◌, ◌^◌, ◌*◌, ◌/◌, ◌<◌, ℕ, Bool, List};
 ghost use Rattle.lot_machine.specs.declared.funding.Node.{Node as ANode};
 ghost use Rattle.lot_machine.specs.declared.funding.Edge.TheVariants.{OfTicket as OfTicketEdge};
@@ -44,7 +44,7 @@ pub(crate) fn read_value(sources: Sources, node: Node, reads: &mut ReadCount) ->
     total
 }
 
-/// The share that an edge passes on, counted.
+/// The share that an edge passes on. It counts the read.
 #[inline(always)]
 pub(crate) fn read_share(sources: Sources, edge: Edge, reads: &mut ReadCount) -> u64
     requires edge { (to : ANode) × LeadsInto sources.graph.now.funding to edge }

@@ -11,7 +11,7 @@ ghost use Rattle.lot_value.specs.Valued.{FollowsGraph};
 use crate::valued_graph::ValuedGraph;
 use lot_machine::{Target, Ticket};
 
-/// Sets a ticket's amount. If it has this amount already, nothing changes, and nothing becomes stale.
+/// Sets a ticket's amount. With the same amount nothing changes, and nothing becomes stale.
 #[inline(always)]
 pub(crate) fn set_amount(graph: &mut ValuedGraph, ticket: u32, amount: u32)
     requires allowed { CanApply graph.old.now graph.old.live (SetAmount ticket amount) }
@@ -30,9 +30,9 @@ pub(crate) fn set_amount(graph: &mut ValuedGraph, ticket: u32, amount: u32)
     }
 }
 
-/// Sets the amount of a ticket that funds something, by unfunding it and funding the same target again, so that the
-/// new amount counts as active. Its target becomes stale. If the ticket is active and its issuer isn't base, the
-/// targets of the issuer's other tickets do too. The issuer becomes stale only if it stops being active in between.
+/// Sets the amount of a ticket that funds something: it unfunds the ticket and funds the same target again, so that the
+/// new amount counts as active. The target becomes stale. If the ticket is active and its issuer isn't base, so do the
+/// targets of the issuer's other tickets. The issuer becomes stale only if it stops being active in between.
 fn fund_again(graph: &mut ValuedGraph, ticket: u32, before: Ticket, amount: u32)
     requires sound { IsSound graph.old.now.funding }
     requires ticket { ticket_at graph.old.now.funding ticket ≡ Some before }

@@ -11,11 +11,11 @@ ghost use Rattle.lot_value.specs.Valued.{FollowsGraph};
 use crate::valued_graph::ValuedGraph;
 use lot_machine::Lend;
 
-/// Makes a thread live or not, and sets its lend. A thread that is live before or after stays live in between, so
-/// that a server doesn't become inactive while a client's funding moves to it.
+/// Makes a thread live or not, and sets its lend. A thread that is live before or after stays live in between, so that
+/// a server doesn't become inactive while a client's funding moves to it.
 ///
-/// A draw and an end of a quantum change no thread's lend and leave it live, so they never call it; compiled into them,
-/// it would take registers from them.
+/// A draw and an end of a quantum change no thread's lend and leave it live, so they never call it. The compiler never
+/// inlines it, since it would take registers from them.
 #[inline(never)]
 pub(crate) fn put_thread(graph: &mut ValuedGraph, thread: u32, lend: Lend, live: bool)
     requires allowed { CanApply graph.old.now graph.old.live (PutThread thread lend live) }
@@ -48,7 +48,7 @@ fn relend(graph: &mut ValuedGraph, thread: u32, lend: Lend)
     }
 }
 
-/// Stops a thread's lending.
+/// Ends a thread's lend.
 #[inline(always)]
 fn unlend(graph: &mut ValuedGraph, thread: u32)
     requires thread { IsThread graph.old.now.funding thread }

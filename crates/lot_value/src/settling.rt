@@ -1,14 +1,14 @@
 //! The order in which stale nodes are settled. This module sees neither values nor counts, so it reads no edge for a
 //! value: staleness isn't a value.
 //!
-//! Most often the next node is the one at the front of the list. If that one has a stale source, it is turned over to
-//! the back, and then it and all stale nodes upstream of it are settled first, from the back of the list.
+//! Most often the next node is the one at the front of the list. If the front node has a stale source, this module
+//! turns it over to the back. Then it and all stale nodes upstream of it come first, from the back of the list.
 //!
 //! While all stale nodes are settled one after the other, and none becomes stale in between, this module walks the
-//! edges into each of them at most three times: once to look at the node at the front, once to raise its stale
-//! sources, and once when it has none left. The sources raised above a node are upstream of it, so they never raise
-//! it again, and all of them are returned before it. With the read for its value that makes four walks, and two for a
-//! node whose sources come before it in the list.
+//! edges into each of them at most three times: once to look at the node at the front, once to raise its stale sources,
+//! and once when it has none left. The sources raised above a node are upstream of it, so they never raise it again,
+//! and all of them are returned before it. With the read for its value that makes four walks, and two for a node whose
+//! sources come before it in the list.
 ghost use Rattle.std.specs.Prelude.{◌≡◌, ℕ, [], Contains, Some, IfSome, IfNone};
 ghost use Rattle.std.specs.Bool.{OnTrue, OnFalse};
 ghost use Rattle.lot_lists.specs.NodeLists.{nodes_of};
@@ -24,8 +24,8 @@ use lot_graph::Graph;
 use lot_lists::Lists;
 use lot_machine::{Edge, Node};
 
-/// Whether a source of a node is stale. It looks at each edge into the node once, even after it has found one: most
-/// nodes have few edges, and a loop with one exit takes fewer instructions.
+/// Whether a source of a node is stale. It reads each edge into the node once, even after it has found one: most nodes
+/// have few edges, and a loop with one exit takes fewer instructions.
 #[inline(always)]
 pub(crate) fn has_stale_source(graph: &Graph, stale: &Lists, node: Node) -> bool
     requires list { IsStaleList stale.now (places.node_count (layout_of graph.now)) }
@@ -49,7 +49,7 @@ pub(crate) fn has_stale_source(graph: &Graph, stale: &Lists, node: Node) -> bool
     found
 }
 
-/// The source of an edge, if the edge exists. It doesn't look at the edge's target.
+/// The source of an edge, if the edge exists. It doesn't read the edge's target.
 #[inline(always)]
 fn source_of_edge(graph: &Graph, edge: Edge) -> Option<Node>
     requires within { IsEdgeWithin (layout_of graph.now) edge }
@@ -62,9 +62,9 @@ fn source_of_edge(graph: &Graph, edge: Edge) -> Option<Node>
     }
 }
 
-/// Turns the node at the front over to the back, unless an earlier one isn't settled yet. Then returns the place of
-/// the first to settle among that node and the stale nodes upstream of it: a stale node without a stale source.
-/// `None` if no node is stale. `turned` is the place of the node turned over, until it is returned.
+/// Turns the node at the front over to the back, unless an earlier turned one is unsettled. Returns the place of the
+/// first node to settle, among the turned one and the stale nodes upstream of it: a stale node without a stale source.
+/// `None` if no node is stale. `turned` is the place of the turned node, until it is returned.
 pub(crate) fn raise_fresh(
     graph: &Graph,
     stale: &mut Lists,
@@ -82,8 +82,8 @@ pub(crate) fn raise_fresh(
     fresh
 }
 
-/// Moves the node at the front of the list, if any, to the back, and returns its place. If a node was turned over
-/// before, returns that one's place.
+/// Moves the node at the front of the list, if any, to the back, and returns its place. If another node is turned over,
+/// returns that one's place.
 fn turn_over(stale: &mut Lists, turned: Option<usize>) -> Option<usize>
     requires list { IsStaleList stale.old stale.old.nodes }
     ensures list { IsStaleList stale.new stale.old.nodes }

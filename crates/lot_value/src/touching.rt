@@ -50,7 +50,7 @@ fn touch_node(graph: &Graph, node: Node, values: &mut Values)
     }
 }
 
-/// Touches the targets of the tickets that these nodes issue, as far as they are user currencies.
+/// Touches the targets of the tickets that user currencies among these nodes issue.
 #[inline(always)]
 pub(crate) fn touch_funded(graph: &Graph, nodes: ChangedNodes, values: &mut Values)
     requires layout { values.old.layout ≡ layout_of graph.now }

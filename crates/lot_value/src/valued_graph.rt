@@ -1,4 +1,4 @@
-//! A funding graph, kept together with its activity and its values.
+//! A funding graph together with its activity and its values.
 ghost use Rattle.std.specs.Prelude.{◌≡◌, ◌+◌, ◌*◌, ◌<◌, ◌≤◌, ◌↔◌, ◌++◌, ◌∷◌, ◌≢◌, false, [], Some, None};
 ghost use Rattle.std.specs.Prelude.{IfOk, IfSome, IfNone, IsTrue, length};
 ghost use Rattle.lot_machine.specs.State.{holders, sizes_of};
@@ -23,8 +23,8 @@ ghost use Rattle.lot_value.specs.Caches.{IsStale, IsOnce, Settles, edges_into_al
 ghost use Rattle.lot_value.specs.Valued.{FollowsGraph, FollowsLives};
 ghost use Rattle.lot_value.specs.Changing.{CanApply, StaleBy, applied};
 ghost use Rattle.lot_value.specs.declared.change.GraphChange.TheVariants.{NewTicket, PutTicket, DropTicket};
-ghost use Rattle.lot_value.specs.declared.change.GraphChange.TheVariants.{NewCurrency, ReuseTicket, ReuseCurrency, DropCurrency};
-ghost use Rattle.lot_value.specs.declared.change.GraphChange.TheVariants.{PutOwner};
+ghost use Rattle.lot_value.specs.declared.change.GraphChange.TheVariants.{NewCurrency, ReuseTicket, ReuseCurrency};
+ghost use Rattle.lot_value.specs.declared.change.GraphChange.TheVariants.{DropCurrency, PutOwner};
 ghost use Rattle.lot_graph.specs.Changes.{with_lends, with_owners, with_tickets};
 
 use crate::change::GraphChange;
@@ -40,8 +40,8 @@ use std::alloc::{AllocError, Global};
 use std::marker::Model;
 
 /// The tickets with their targets, the lends and the owners of mutexes; the live threads, and so the active tickets;
-/// and the value of each currency, thread and mutex (4.4), if it isn't stale. Each change of the first two makes
-/// stale the nodes that depend on it, and reads nothing for a value.
+/// and the value of each currency, thread and mutex (4.4), if it isn't stale. Each change of the first two makes stale
+/// the nodes that depend on it, and reads no edge for a value.
 pub struct ValuedGraph {
     graph: Graph,
     active: Active,
@@ -70,7 +70,7 @@ impl Model for ValuedGraph {
 }
 
 impl ValuedGraph {
-    /// Base alone, free mutexes, no live thread, nothing stale, and nothing read.
+    /// Base alone, free mutexes, no live thread, nothing stale, and counts of 0. It fails only if out of memory.
     pub fn new(alloc: Global, limits: &Limits) -> Result<Self, AllocError>
         ensures now { IfOk result (λ made. made.now
             ≡ record {
@@ -94,7 +94,7 @@ impl ValuedGraph {
         })
     }
 
-    /// The total of bytes that `new` requests from the allocator.
+    /// The number of bytes that `new` requests from the allocator.
     pub fn bytes(limits: &Limits) -> u64
         ensures { result ≡ 40 * limits.now.tickets + 70 * limits.now.currencies + 81 * limits.now.threads
             + 81 * holders (sizes_of limits.now) + 110 }
@@ -103,7 +103,7 @@ impl ValuedGraph {
         Graph::bytes(limits) + Active::bytes(layout) + Values::bytes(layout)
     }
 
-    /// The bytes that it has room for: those that `new` requested, whatever has happened since.
+    /// The capacity in bytes: always exactly what `new` requested.
     pub fn held(&self) -> u64
         ensures { result ≡ 40 * self.now.now.ticket_limit + 70 * self.now.now.currency_limit
             + 81 * self.now.now.thread_limit + 81 * length self.now.now.funding.owners + 110 }
@@ -179,7 +179,7 @@ impl ValuedGraph {
         attach(&self.graph, &mut self.active, &mut self.values, edge);
     }
 
-    /// Takes a ticket's target away; the target continues to exist.
+    /// Clears a ticket's target. The target itself stays.
     pub(crate) fn unfund(&mut self, ticket: u32)
         requires funding { IsFunding self.old.now.funding ticket }
         ensures follows { FollowsGraph self.old self.new
@@ -253,7 +253,7 @@ impl ValuedGraph {
         }
     }
 
-    /// Makes a mutex free, if it isn't. The lends of waiting threads then go no further (6.1).
+    /// Frees a mutex, at which the lends of waiting threads then end (6.1). A free mutex stays free.
     fn give_up_mutex(&mut self, mutex: u32)
         requires mutex { IsMutex self.old.now.funding mutex }
         ensures follows { FollowsGraph self.old self.new
@@ -310,7 +310,7 @@ impl ValuedGraph {
         self.graph.add_thread();
     }
 
-    /// Makes a thread live, or not.
+    /// Makes a thread live, or ends that.
     #[inline(always)]
     pub fn set_live(&mut self, thread: u32, live: bool)
         requires thread { IsThread self.old.now.funding thread }
@@ -320,7 +320,7 @@ impl ValuedGraph {
         touch_listed(&self.graph, &self.active, &mut self.values);
     }
 
-    /// Makes a thread lend to another thread or a mutex that doesn't reach it.
+    /// Makes a thread lend to another thread or a mutex, from which no path leads back to it.
     pub(crate) fn lend(&mut self, thread: u32, lend: Lend)
         requires nobody { at_number self.old.now.funding.lends thread ≡ Some Nobody }
         requires borrower { IsBorrower self.old.now.funding lend }
@@ -333,7 +333,7 @@ impl ValuedGraph {
         attach(&self.graph, &mut self.active, &mut self.values, edge);
     }
 
-    /// Stops the lending of a thread.
+    /// Ends a thread's lend.
     pub(crate) fn unlend(&mut self, thread: u32)
         requires lender { IsLender self.old.now.funding thread }
         ensures follows { FollowsGraph self.old self.new
@@ -415,8 +415,8 @@ impl ValuedGraph {
         self.values.value_of(node)
     }
 
-    /// A ticket's value (4.4), in base units, if its issuer isn't stale. For a ticket that funds something it counts
-    /// one read; any other is worth nothing.
+    /// A ticket's value (4.4), in base units, if its issuer isn't stale. It counts one read of a ticket that funds
+    /// something. A ticket that funds nothing is worth 0.
     pub fn ticket_value(&mut self, ticket: u32) -> u64
         requires fresh { (t : ATicket) → ticket_at self.old.now.funding ticket ≡ Some t
             → ¬ IsStale self.old.known (CurrencyNode t.issuer) }
@@ -433,8 +433,8 @@ impl ValuedGraph {
         self.values.ticket_value(&self.graph, &self.active, ticket)
     }
 
-    /// The value of a ticket (4.4), in base units, if nothing is stale; a ticket that funds nothing is worth nothing.
-    /// It counts no read.
+    /// A ticket's value (4.4), in base units, if nothing is stale. A ticket that funds nothing is worth 0. It counts no
+    /// read.
     pub fn settled_ticket_value(&self, ticket: u32) -> u64
         requires settled { self.now.known.stale ≡ [] }
         ensures { (t : ATicket) → ticket_at self.now.now.funding ticket ≡ Some t

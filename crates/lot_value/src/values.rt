@@ -29,11 +29,11 @@ use std::alloc::{AllocError, Global};
 use std::marker::Model;
 use std::mem::size_of;
 
-// The memory of one node's value.
+// The bytes of one node's value.
 const VALUE_BYTES: u64 = size_of::<u64>() as u64;
 
-/// The number of edges read for values. Only `Values::new` can make one, and it can't be copied, so a read is counted
-/// for the values for which it is made.
+/// The number of edges read for values. Only `Values::new` can make one, and nothing can copy it, so a read always
+/// counts for the values that it is for.
 #[derive(Drop)]
 pub(crate) struct ReadCount {
     reads: u64,
@@ -90,7 +90,8 @@ impl Model for Values {
 }
 
 impl Values {
-    /// All nodes of a graph within its limits, with value 0, none of them stale, and nothing read.
+    /// All nodes of a graph within its limits, with value 0, none of them stale, and a count of 0. It fails only if out
+    /// of memory.
     pub fn new(alloc: Global, graph: &Graph, unit: u32) -> Result<Self, AllocError>
         ensures { IfOk result (λ made. made
             ≡ record {
@@ -113,7 +114,7 @@ impl Values {
         })
     }
 
-    /// The total of bytes that `new` requests from the allocator, for a graph with this layout.
+    /// The number of bytes that `new` requests from the allocator for a graph with this layout.
     pub fn bytes(layout: Layout) -> u64
         ensures { result ≡ 20 * places.node_count layout + 8 }
     {
@@ -121,7 +122,7 @@ impl Values {
         VALUE_BYTES * nodes as u64 + Lists::bytes(1, nodes)
     }
 
-    /// The bytes that it has room for: those that `new` requested, whatever has happened since.
+    /// The capacity in bytes: always exactly what `new` requested.
     pub fn held(&self) -> u64
         ensures { result ≡ 20 * places.node_count self.now.layout + 8 }
     {
@@ -150,7 +151,7 @@ impl Values {
         self.stale.is_empty(STALE)
     }
 
-    /// A node's cached value: its value (4.4), if it isn't stale.
+    /// A node's cached value, which is its value (4.4) if it isn't stale.
     pub fn value_of(&self, node: Node) -> u64
         requires node { IsNodeWithin self.now.layout node }
         ensures value { result ≡ value_in self.now node }
@@ -161,8 +162,8 @@ impl Values {
         self.values[self.layout.list_of(node)]
     }
 
-    /// A ticket's value (4.4), in base units, if its issuer isn't stale. For a ticket that funds something it counts
-    /// one read; any other is worth nothing.
+    /// A ticket's value (4.4), in base units, if its issuer isn't stale. It counts one read of a ticket that funds
+    /// something. A ticket that funds nothing is worth 0.
     pub fn ticket_value(&mut self, graph: &Graph, active: &Active, ticket: u32) -> u64
         requires right { (live : List Bool) × IsKeptFor active.now graph.now live
             × IsSmall self.old.unit graph.now live × IsRight graph.now live self.old }
@@ -189,8 +190,8 @@ impl Values {
         read_share(sources, Edge::OfTicket(ticket), &mut self.reads)
     }
 
-    /// The value of a ticket (4.4), in base units, if nothing is stale; a ticket that funds nothing is worth nothing.
-    /// It counts no read: rows of a settled kernel are its only callers, and no event reaches it.
+    /// A ticket's value (4.4), in base units, if nothing is stale. A ticket that funds nothing is worth 0. It counts no
+    /// read: rows of a settled kernel are its only callers, and no event reaches it.
     pub fn settled_ticket_value(&self, graph: &Graph, active: &Active, ticket: u32) -> u64
         requires right { (live : List Bool) × IsKeptFor active.now graph.now live
             × IsSmall self.now.unit graph.now live × IsRight graph.now live self.now }
@@ -211,8 +212,8 @@ impl Values {
         ticket_share(sources, ticket)
     }
 
-    /// Makes a node, and all nodes that it reaches, stale. It reads each edge from a node that becomes stale once,
-    /// and nothing for a value.
+    /// Makes a node, and all nodes that it reaches, stale. It reads each edge from a node that becomes stale once, and
+    /// none for a value.
     ///
     /// After a change of the graph or of the live threads, the caller touches each node whose equation has changed.
     #[inline(always)]
@@ -276,8 +277,8 @@ impl Values {
         self.settle_raised(graph, active)
     }
 
-    /// Settles the next node from the back of the list, for the rare case that the node at the front has a stale
-    /// source, or that one turned over isn't settled yet.
+    /// Settles the next node from the back of the list, for the rare case that the front node has a stale source, or
+    /// that a turned node is unsettled.
     fn settle_raised(&mut self, graph: &Graph, active: &Active) -> Option<Node>
         requires right { (live : List Bool) × IsKeptFor active.now graph.now live
             × IsSmall self.old.unit graph.now live × IsRight graph.now live self.old }

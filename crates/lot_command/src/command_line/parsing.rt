@@ -19,16 +19,16 @@ use std::convert::AsStr;
 /// The title of a picture, unless the command line gives one.
 const TITLE: &str = "What each thread has run";
 
-/// The same of a picture by currency. It also suits an input of another format, whose lines are threads.
+/// The default title of a picture by currency. It also suits an input of another format, whose lines are threads.
 const CURRENCIES_TITLE: &str = "Who has run how long";
 
-/// The text for an interval that is empty.
+/// The text for an empty interval.
 const EMPTY_INTERVAL: &str = "the interval is empty: '--from <A>' has to be less than '--to <B>'";
 
 /// The version of the program, which is that of the library.
 const VERSION: &str = "0.4.0";
 
-/// The text for seeds that aren't from one to another.
+/// The text for seeds in the wrong form.
 const WRONG_SEEDS: &str =
     "the seeds are wrong: '--seeds <A..B>' has two numbers from 1 to 2147483646 with '..' \
     between them, of which the first is at most the second";
@@ -36,7 +36,7 @@ const WRONG_SEEDS: &str =
 /// The word for standard input in place of a file's name.
 const STANDARD: &str = "-";
 
-/// The command line without options.
+/// The command line without words.
 const PLAY: CommandLine<'static> = CommandLine {
     request: Request::Show(Showing {
         view: View::Play,
@@ -46,8 +46,8 @@ const PLAY: CommandLine<'static> = CommandLine {
     file: None,
 };
 
-/// Parses the words of a call of the program, its own name first. The error is clap's: its kind is `OutOfMemory` if out
-/// of memory. Otherwise its text says what is wrong with the words, or is the help that they ask for.
+/// Parses the words of a call of the program, its own name first. The error is clap's: of kind `OutOfMemory` if out of
+/// memory. Otherwise its text tells the words' fault, or is the help that they request.
 pub fn command_line_of<'a, S: AsStr>(
     alloc: Global,
     words: &'a [S],
@@ -59,8 +59,8 @@ pub fn command_line_of<'a, S: AsStr>(
     }
 }
 
-/// Parses the words by this command. Only the matches are alive here, and only the command in the caller: each way out
-/// drops what is alive, step by step in a proof.
+/// Parses the words by this command. A function of its own, so that only the matches are alive here, and only the
+/// command in the caller: each way out drops its live values, which the proof follows step by step.
 fn parse<'a, S: AsStr>(
     command: &mut Command<'a>,
     words: &'a [S],
@@ -72,7 +72,7 @@ fn parse<'a, S: AsStr>(
     }
 }
 
-/// What the words ask for, or what is wrong with them.
+/// The command line that the words request, or the text of their fault.
 fn wanted<'a>(matches: &ArgMatches<'a>) -> Result<CommandLine<'a>, &'static str> {
     let Some((name, given)) = matches.subcommand() else {
         return Ok(PLAY);
@@ -83,7 +83,7 @@ fn wanted<'a>(matches: &ArgMatches<'a>) -> Result<CommandLine<'a>, &'static str>
     }
 }
 
-/// The subcommand with this name, which is one of the table.
+/// The subcommand with this name in the table.
 fn subcommand_named(name: &str) -> Subcommand {
     for row in subcommands() {
         if row.name == name {
@@ -127,7 +127,6 @@ fn file_argument<'a>(alloc: Global) -> Arg<'a> {
         .help("Where the input is; standard input if it is left out or -")
 }
 
-/// The option of this row.
 fn option_of<'a>(alloc: Global, row: &'static OptionRow) -> Result<Arg<'a>, AllocError> {
     let option = Arg::new(alloc, row.name).long(row.name).help(row.help);
     let option = with_value(option, row.value).conflicts_with_all(row.excludes)?;
@@ -137,7 +136,7 @@ fn option_of<'a>(alloc: Global, row: &'static OptionRow) -> Result<Arg<'a>, Allo
     }
 }
 
-/// The option with such a value.
+/// The option with a value of this kind.
 fn with_value<'a>(option: Arg<'a>, value: Value) -> Arg<'a> {
     let (name, parser) = match value {
         Value::Flag => return option.action(ArgAction::SetTrue),
@@ -151,7 +150,7 @@ fn with_value<'a>(option: Arg<'a>, value: Value) -> Arg<'a> {
         .value_parser(parser)
 }
 
-/// What the subcommand asks for, with these options.
+/// The command line of the subcommand with these options.
 fn line_of<'a>(subcommand: Subcommand, given: &ArgMatches<'a>) -> CommandLine<'a> {
     CommandLine {
         request: request_of(subcommand, given),
@@ -160,7 +159,7 @@ fn line_of<'a>(subcommand: Subcommand, given: &ArgMatches<'a>) -> CommandLine<'a
     }
 }
 
-/// What is wrong with the options, if anything is.
+/// The text of the options' fault, if they have one.
 fn fault_of(given: &ArgMatches<'_>) -> Option<&'static str> {
     if is_empty(interval_of(given)) {
         Some(EMPTY_INTERVAL)
@@ -171,7 +170,7 @@ fn fault_of(given: &ArgMatches<'_>) -> Option<&'static str> {
     }
 }
 
-/// The request of the subcommand, with these options. Several plays are shown by their figures, whatever shows them.
+/// The request of the subcommand with these options. With several seeds it is always the report of figures.
 fn request_of(subcommand: Subcommand, given: &ArgMatches<'_>) -> Request {
     let seeds = seeds_of(given);
     let view = match subcommand {
@@ -207,7 +206,7 @@ fn chart_of(given: &ArgMatches<'_>) -> View {
     }
 }
 
-/// The interval of the time that was given, or none for the whole.
+/// The interval given, or `None` for the whole time.
 fn interval_of(given: &ArgMatches<'_>) -> Option<Interval> {
     let from: Option<u64> = given.get_one("from");
     let to: Option<u64> = given.get_one("to");
@@ -237,7 +236,7 @@ fn title_of<'a>(given: &ArgMatches<'a>) -> &'a str {
     given.get_str("title").unwrap_or(title)
 }
 
-/// The title of a picture whose lines stand for these, if none is given.
+/// The default title of a picture with these lines.
 fn default_title(by: By) -> &'static str {
     match by {
         By::Thread => TITLE,
@@ -245,7 +244,7 @@ fn default_title(by: By) -> &'static str {
     }
 }
 
-/// What the lines of a picture stand for.
+/// The subjects of a picture's lines.
 fn by_of(given: &ArgMatches<'_>) -> By {
     match given.get_str("by") {
         Some("currency") => By::Currency,
@@ -253,7 +252,7 @@ fn by_of(given: &ArgMatches<'_>) -> By {
     }
 }
 
-/// How much `explain` says.
+/// The level of detail of `explain`.
 fn detail_of(given: &ArgMatches<'_>) -> Detail {
     if given.get_flag("funding") {
         Detail::Funding
@@ -271,12 +270,12 @@ fn measure_of(given: &ArgMatches<'_>) -> Measure {
     }
 }
 
-/// The seed that was given, or none for those of the input.
+/// The seed given, or `None` for the input's own seeds.
 fn seed_of(given: &ArgMatches<'_>) -> Option<Seed> {
     Seed::new(given.get_one("seed")?)
 }
 
-/// The seeds of several plays, if they were given and are right.
+/// The seeds of several plays, if they are given in the right form.
 fn seeds_of(given: &ArgMatches<'_>) -> Option<Seeds> {
     let (first, last) = given.get_str("seeds")?.split_once("..")?;
     let first = Seed::new(first.parse::<u32>().ok()?)?;
@@ -287,7 +286,6 @@ fn seeds_of(given: &ArgMatches<'_>) -> Option<Seeds> {
     Some(Seeds { first, last })
 }
 
-/// The form of a report.
 fn form_of(given: &ArgMatches<'_>) -> ReportForm {
     if !given.get_flag("csv") {
         return ReportForm::Lines;
@@ -298,7 +296,7 @@ fn form_of(given: &ArgMatches<'_>) -> ReportForm {
     }
 }
 
-/// The name of the file that was given, or none for standard input.
+/// The name of the file given, or `None` for standard input.
 fn file_of<'a>(given: &ArgMatches<'a>) -> Option<&'a str> {
     match given.get_str("file") {
         Some(name) if name != STANDARD => Some(name),

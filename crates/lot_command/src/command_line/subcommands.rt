@@ -2,10 +2,9 @@
 
 use lot_simulation::ranges;
 
-/// What the lines of a picture and the rows of a report's table may stand for.
+/// The subjects of a picture's lines and of a table's rows.
 pub(crate) const LINES: &[&str] = &["thread", "currency"];
 
-/// A subcommand.
 #[derive(Clone, Copy)]
 pub(crate) enum Subcommand {
     Play,
@@ -20,7 +19,7 @@ pub(crate) enum Subcommand {
 pub(crate) struct SubcommandRow {
     pub(crate) subcommand: Subcommand,
     pub(crate) name: &'static str,
-    /// What it does.
+    /// The line of the help about it.
     pub(crate) about: &'static str,
     pub(crate) options: &'static [OptionRow],
 }
@@ -30,9 +29,9 @@ pub(crate) struct OptionRow {
     pub(crate) name: &'static str,
     pub(crate) value: Value,
     pub(crate) help: &'static str,
-    /// The options that can't be given beside it.
+    /// The options that exclude it.
     pub(crate) excludes: &'static [&'static str],
-    /// The option without which it can't be given.
+    /// The option that it needs.
     pub(crate) needs: Option<&'static str>,
 }
 
@@ -52,8 +51,8 @@ pub(crate) enum Value {
     Lines,
 }
 
-/// The subcommands, in the order of the help. A caller's proof sees a slice of some rows, so it doesn't carry the whole
-/// table along.
+/// The subcommands, in the order of the help. Behind this call a caller's proof sees a slice of some rows, and not the
+/// whole table.
 pub(crate) fn subcommands() -> &'static [SubcommandRow] {
     &SUBCOMMANDS
 }
@@ -127,7 +126,7 @@ const SEEDS: OptionRow = OptionRow {
     needs: None,
 };
 
-/// The option for the seeds of several plays of the whole time, which have ticks alone.
+/// The option for the seeds of several plays of the whole time, whose figures are ticks alone.
 const WHOLE_SEEDS: OptionRow = OptionRow {
     excludes: &["seed", "quanta", "from", "to", "window"],
     ..SEEDS
@@ -142,7 +141,7 @@ const CSV: OptionRow = OptionRow {
     needs: None,
 };
 
-/// The option by which rows stand for currencies.
+/// The option for rows by currency.
 const TABLE_BY: OptionRow = OptionRow {
     name: "by",
     value: Value::Lines,
@@ -152,7 +151,7 @@ const TABLE_BY: OptionRow = OptionRow {
     needs: Some("csv"),
 };
 
-/// The option by which lines stand for currencies.
+/// The option for lines by currency.
 const CHART_BY: OptionRow = OptionRow {
     name: "by",
     value: Value::Lines,
@@ -180,7 +179,7 @@ const QUANTA: OptionRow = OptionRow {
     needs: None,
 };
 
-/// The option for the beginning of an interval of the time.
+/// The option for the start of an interval of time.
 const FROM: OptionRow = OptionRow {
     name: "from",
     value: Value::Number {
@@ -193,7 +192,7 @@ const FROM: OptionRow = OptionRow {
     needs: None,
 };
 
-/// The option for the end of an interval of the time.
+/// The option for the end of an interval of time.
 const TO: OptionRow = OptionRow {
     name: "to",
     value: Value::Number {
@@ -206,7 +205,7 @@ const TO: OptionRow = OptionRow {
     needs: None,
 };
 
-/// The option for a window of the time.
+/// The option for a window of time.
 const WINDOW: OptionRow = OptionRow {
     name: "window",
     value: Value::Number {
@@ -219,7 +218,6 @@ const WINDOW: OptionRow = OptionRow {
     needs: None,
 };
 
-/// The option for the title of a picture.
 const PICTURE_TITLE: OptionRow = OptionRow {
     name: "title",
     value: Value::Text("title"),

@@ -7,8 +7,8 @@ use clap::{Command, Error};
 use std::alloc::{AllocError, Global};
 use std::convert::AsStr;
 
-/// The error of these words with a clearer text, if there is one: for the name of a file in place of a subcommand, and
-/// for an option that the subcommand doesn't have. It fails only if out of memory.
+/// A clearer error for these words, if there is one: for a file's name in place of a subcommand, and for an option that
+/// the subcommand doesn't have. It fails only if out of memory.
 pub(crate) fn clearer<'a, S: AsStr>(
     alloc: Global,
     command: &mut Command<'a>,
@@ -31,7 +31,7 @@ fn is_file(word: &str) -> bool {
     word.contains('.') || word.contains('/')
 }
 
-/// The error for the name of a file in place of a subcommand.
+/// The error for a file's name in place of a subcommand.
 fn no_subcommand(
     alloc: Global,
     command: &mut Command<'_>,
@@ -43,8 +43,8 @@ fn no_subcommand(
     command.error(ErrorKind::InvalidSubcommand, text.as_str())
 }
 
-/// The error for an option that the subcommand with this name doesn't have, if these words after it have one, in place
-/// of this error: unless that suggests a similar one.
+/// The error for an option that the subcommand with this name doesn't have, if these words after it have one. It
+/// replaces this error, unless this error suggests a similar option.
 fn no_option<S: AsStr>(
     alloc: Global,
     name: &str,
@@ -92,7 +92,7 @@ fn unknown_option<'a, S: AsStr>(row: &SubcommandRow, words: &'a [S]) -> Option<&
     None
 }
 
-/// Whether the subcommand has this option, as each has those for help.
+/// Whether the subcommand has this option; each has those for help.
 fn has_option(row: &SubcommandRow, option: &str) -> bool {
     option == "-h"
         || option == "--help"
@@ -102,7 +102,7 @@ fn has_option(row: &SubcommandRow, option: &str) -> bool {
             .any(|one| option.strip_prefix("--") == Some(one.name))
 }
 
-/// A subcommand that has this option, also without another one, if one has.
+/// A subcommand that has this option, if one has it. It may need another option too.
 fn owner_of(option: &str) -> Option<&'static SubcommandRow> {
     subcommands().iter().find(|row| {
         row.options.iter().any(|one| option.strip_prefix("--") == Some(one.name)

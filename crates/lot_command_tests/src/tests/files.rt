@@ -47,7 +47,7 @@ processor 1 quanta 2 idle 0 ticks 4
 total turns 5 quanta 2 ticks 4
 ";
 
-/// The report and the history of a run, which makes the command alone.
+/// The report and the history of a run, which makes only the command.
 const RUN: &str = "report
 thread 1 a quanta 0 ticks 0
 processor 1 quanta 0 idle 0 ticks 0
@@ -62,16 +62,16 @@ const DRAWS: &str = "tick,a\n0,1\n1,1\n2,2\n3,2\n4,2\n";
 /// The ticks after tick 1 and up to tick 3: one of each quantum.
 const TICKS_BETWEEN: &str = "tick,a\n1,0\n2,1\n3,2\n";
 
-/// The draws between the same ticks: that of tick 2 alone.
+/// The draws between the same ticks: only the one of tick 2.
 const DRAWS_BETWEEN: &str = "tick,a\n1,0\n2,1\n3,1\n";
 
-/// The shares of the only thread: nobody has run at tick 0.
+/// The shares of the only thread: no thread has run at tick 0.
 const SHARES: &str = "tick,a\n0,0.0\n1,100.0\n2,100.0\n3,100.0\n4,100.0\n";
 
 /// The shares of the draws of tick 0 and tick 2, each in its own tick and the next.
 const DRAW_SHARES: &str = "tick,a\n0,100.0\n1,100.0\n2,100.0\n3,100.0\n4,0.0\n";
 
-/// The words, and what the program writes.
+/// Words, and the expected output.
 static ROWS: [(&[&str], &str); 21] = [
     (&["lot_sim", "play", "x.lot"], PLAYED),
     (&["lot_sim", "play", "--", "x.lot"], PLAYED),
@@ -137,7 +137,7 @@ fn ended_with<H: Threads + Wait + Sync, F: Read + Drop>(
     ended_of(rt, alloc, words, inputs)
 }
 
-/// Calls the program with these words and a file that can be read, and compares what it writes.
+/// Calls the program with these words and a readable file, and compares the output.
 fn check_written<H: Abort + Threads + Wait + Sync>(
     rt: &H,
     alloc: Global,
@@ -187,7 +187,7 @@ fn check_titled<H: Abort + Threads + Wait + Sync>(rt: &H, alloc: Global, wanted:
     }
 }
 
-/// Has the program read the file of this name, which fails in this way, and compares the diagnostics.
+/// Calls the program on the file of this name, which fails in this way, and compares the diagnostics.
 fn check_unread<H: Abort + Threads + Wait + Sync>(
     rt: &H,
     alloc: Global,
@@ -200,10 +200,10 @@ fn check_unread<H: Abort + Threads + Wait + Sync>(
     check_same_at(rt, &word, &found, &(3, true, expected));
 }
 
-/// A name of a file, whether it has given all its bytes, how it fails then, and the diagnostics.
+/// A file's name, whether it has given all its bytes, how it fails then, and the diagnostics.
 type Unread = (&'static str, bool, ErrorKind, &'static str);
 
-/// A file that isn't there, a directory, which can be opened and not be read, and a file that fails after a byte.
+/// A missing file, a directory, which can be opened but not read, and a file that fails after a byte.
 const UNREAD: &[Unread] = &[
     (
         "y.lot",
@@ -225,7 +225,7 @@ const UNREAD: &[Unread] = &[
     ),
 ];
 
-/// Has the program read each of these files with this subcommand.
+/// Calls the program with this subcommand on each of these files.
 fn check_unread_files<H: Abort + Threads + Wait + Sync>(rt: &H, alloc: Global, word: &str) {
     for (name, given, kind, expected) in UNREAD {
         let file = Failing {
@@ -245,7 +245,7 @@ fn unread_files(rt: HostRuntime) {
     }
 }
 
-// The input of the file is refused as one of standard input, and each line that is told begins with the file's name.
+// The input of the file is refused like one of standard input, and each diagnostic begins with the file's name.
 #[test]
 fn refused_file(rt: HostRuntime) {
     let file = "lottery 1\nmktk 5 base\n".as_bytes();
@@ -285,8 +285,7 @@ fn more_faults_of_a_file(rt: HostRuntime) {
     );
 }
 
-/// A refused command, an unlock of a mutex that isn't owned, a thread that weighs nothing and a command that is too
-/// late.
+/// A refused command, an unlock of another's mutex, a thread that weighs nothing and a command after the end.
 const WARNED: &str = "lottery 3
 for 20
 quantum 10
@@ -313,7 +312,7 @@ fn warnings_of_a_file(rt: HostRuntime) {
     check_same(&rt, &(ended.code, ended.told()), &(0, WARNINGS));
 }
 
-/// Plays the file of this name, of which there is only a directory `x.lot`, with an output for diagnostics that fails.
+/// Plays the file of this name, while the only entry is a directory `x.lot`, with an output for diagnostics that fails.
 /// Returns the exit status and whether nothing was written.
 fn ended_untold<H: Threads + Wait + Sync>(rt: &H, alloc: Global, name: &str) -> (u8, bool) {
     let mut output = Vec::new(alloc);
@@ -334,7 +333,7 @@ fn ended_untold<H: Threads + Wait + Sync>(rt: &H, alloc: Global, name: &str) -> 
     (code, output.is_empty())
 }
 
-// If the diagnostics can't be written either, the status is the same.
+// If a write of the diagnostics fails too, the status is the same.
 #[test]
 fn failing_errors(rt: HostRuntime) {
     for name in ["x.lot", "y.lot"] {

@@ -1,4 +1,4 @@
-//! Inputs in place of those of the system.
+//! Inputs in place of the system's.
 
 use lot_command::Inputs;
 use std::io;

@@ -1,4 +1,4 @@
-//! Outputs that fail, and that are flushed. Nothing more is written to one after its first error.
+//! Outputs that fail, and flushed outputs. After its first error an output gets no more.
 
 use super::inputs::on_standard;
 use super::same::{check_same, check_same_at};
@@ -21,7 +21,7 @@ struct Asked<'a> {
     writes: u32,
 }
 
-/// Inputs whose output takes a single write.
+/// Inputs whose output is a single write.
 const SHORT: &[Asked<'static>] = &[
     Asked {
         word: "play",
@@ -53,8 +53,8 @@ const SHORT: &[Asked<'static>] = &[
     },
 ];
 
-/// Makes this request with an output whose call of this number fails, and returns whether the program failed: then it
-/// made no further call, and the output is a beginning of the text.
+/// Makes this request with an output whose call of this number fails. Returns whether the program failed; then it made
+/// no further call, and the output is a beginning of the text.
 fn output_fails<H: Abort + Threads + Wait + Sync>(
     rt: &H,
     alloc: Global,
@@ -70,8 +70,8 @@ fn output_fails<H: Abort + Threads + Wait + Sync>(
     has_failed
 }
 
-/// Makes this request with an output whose call of this number fails. Returns the exit status, whether the output has
-/// what it should have, and whether something was told.
+/// Makes this request with an output whose call of this number fails. Returns the exit status, whether the output is
+/// the expected one, and whether there are diagnostics.
 fn ended_to<H: Threads + Wait + Sync>(
     rt: &H,
     alloc: Global,
@@ -88,8 +88,8 @@ fn ended_to<H: Threads + Wait + Sync>(
     (ended, is_taken, !errors.is_empty())
 }
 
-/// Asks for this with an output that fails at each of its calls, and at none. A flush takes no bytes, so it fails
-/// with an error alone.
+/// Makes this request with an output that fails at each of its calls, and at none. A flush accepts no bytes, so it
+/// fails only with an error.
 fn check_output<H: Abort + Threads + Wait + Sync>(rt: &H, alloc: Global, asked: Asked) {
     for kind in WAYS {
         for call in 0..10 {
@@ -98,7 +98,7 @@ fn check_output<H: Abort + Threads + Wait + Sync>(rt: &H, alloc: Global, asked: 
     }
 }
 
-/// Asks for this with an output whose call of this number fails, and checks whether the program fails.
+/// Makes this request with an output whose call of this number fails, and checks whether the program fails.
 fn check_call<H: Abort + Threads + Wait + Sync>(
     rt: &H,
     alloc: Global,
@@ -120,7 +120,7 @@ fn failing_outputs(rt: HostRuntime) {
     }
 }
 
-// Output longer than the buffer.
+// An output longer than the buffer.
 #[test]
 fn failing_long_output(rt: HostRuntime) {
     let mut text = String::new(rt.alloc());
@@ -142,8 +142,8 @@ total turns 10000 quanta 0 ticks 0
     check_output(&rt, rt.alloc(), asked);
 }
 
-/// Calls the program with these words, and returns its exit status and the one output that it wrote to, whose call of
-/// this number fails.
+/// Calls the program with these words, and returns its exit status and the output that it wrote to, whose call of this
+/// number fails.
 fn ended_with<H: Abort + Threads + Wait + Sync>(
     rt: &H,
     alloc: Global,
@@ -155,7 +155,7 @@ fn ended_with<H: Abort + Threads + Wait + Sync>(
     let mut errors = FailingCall::new(alloc, fails_at, kind);
     let inputs = on_standard("".as_bytes());
     let ended = status(rt, alloc, words, inputs, &mut output, &mut errors);
-    // That help couldn't be written is told, too.
+    // Diagnostics also tell a failed write of the help.
     if output.calls > 0 {
         (ended, output)
     } else {
@@ -163,7 +163,7 @@ fn ended_with<H: Abort + Threads + Wait + Sync>(
     }
 }
 
-/// Calls the program with these words and an output that fails at each of its calls, and at none. The last is the
+/// Calls the program with these words and an output that fails at each of its calls, and at none. The last call is the
 /// flush.
 fn check_told<H: Abort + Threads + Wait + Sync>(
     rt: &H,
@@ -177,7 +177,7 @@ fn check_told<H: Abort + Threads + Wait + Sync>(
     check_begun(rt, alloc, words, kind, &whole);
 }
 
-/// Calls the program with these words and an output that fails at each of the calls that the whole output had.
+/// Calls the program with these words and an output that fails at each of the calls that the whole output takes.
 fn check_begun<H: Abort + Threads + Wait + Sync>(
     rt: &H,
     alloc: Global,
@@ -193,7 +193,7 @@ fn check_begun<H: Abort + Threads + Wait + Sync>(
 }
 
 /// Calls the program with these words and an output whose call of this number fails. Returns the exit status, and
-/// whether that call was the last, and the output is a beginning of the text.
+/// whether that call was the last and the output is a beginning of the text.
 fn has_begun<H: Abort + Threads + Wait + Sync>(
     rt: &H,
     alloc: Global,
@@ -206,7 +206,7 @@ fn has_begun<H: Abort + Threads + Wait + Sync>(
     (ended, begun.has_taken(text, true))
 }
 
-/// Words that have a text written, and the exit status.
+/// Words that request a text, and the exit status.
 const TEXTS: &[(&[&str], u8)] = &[
     (&["lot_sim", "--help"], 0),
     (&["lot_sim", "--version"], 0),
@@ -225,7 +225,7 @@ fn failing_texts(rt: HostRuntime) {
     check_untaken(&rt, rt.alloc());
 }
 
-/// Asks for help with an output that takes no byte.
+/// Requests help with an output that accepts no byte.
 fn check_untaken<H: Abort + Threads + Wait + Sync>(rt: &H, alloc: Global) {
     let (ended, output) = ended_with(rt, alloc, &["lot_sim", "--help"], 1, None);
     let found = (ended, output.calls, output.written.is_empty());

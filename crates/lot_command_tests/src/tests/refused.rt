@@ -1,4 +1,4 @@
-//! The faults that are reported of a refused input.
+//! The faults that the program reports of a refused input.
 
 use super::files::WORDS;
 use super::inputs::on_standard;
@@ -99,7 +99,7 @@ const AT_THE_END_TOLD: &str = "line 2: 'mktk' is no body line; did you mean 'mkt
 line 3: this line is written 'mkcur NAME', and here is 1 word
 ";
 
-/// That the script isn't closed shows only at the end.
+/// The missing end of the script shows only at the end.
 const UNCLOSED: (&str, &str) = (
     "lottery 1
 script s
@@ -145,7 +145,7 @@ fn faults_of_each_request(rt: HostRuntime) {
     }
 }
 
-// The output has the first fault alone.
+// The output has only the first fault.
 #[test]
 fn one_refused_line(rt: HostRuntime) {
     let (input, _) = OF_FIRST;
@@ -179,7 +179,7 @@ line 10: this line is written 'lscur', and here are 2 words
 line 11: this line is written 'lsthr', and here are 2 words
 ";
 
-/// Last lines of that input, and of what is told of it.
+/// Last lines of that input, and of its diagnostics.
 const MORE_TOLD: &[(&str, &str)] = &[
     ("", ""),
     ("lsthr\n", ""),
@@ -217,7 +217,7 @@ fn told_before<H: Abort + Threads + Wait + Sync>(
     errors
 }
 
-/// Numbers of the write of diagnostics that fails, and what was told before.
+/// Numbers of the failing write of diagnostics, and the diagnostics before it.
 const TOLD_BEFORE: &[(u32, &str)] = &[
     (1, ""),
     (2, "line 2: 'mktk' is no body line; did you mean 'mktkt'?\n"),
@@ -232,7 +232,7 @@ fn failing_errors(rt: HostRuntime) {
     }
 }
 
-/// Has the write of this number fail, and compares what was told before.
+/// Plays the input with a failing write of this number, and compares the diagnostics before it.
 fn check_told_before<H: Abort + Threads + Wait + Sync>(
     rt: &H,
     alloc: Global,
@@ -261,7 +261,7 @@ fn are_first(lines: &str, others: &str) -> bool {
     true
 }
 
-// If an allocation fails, the program says so and fails, or it reports the faults that it has memory for.
+// If an allocation fails, the program says so and fails, or it reports the faults for which it has memory.
 #[test]
 fn tells_or_lacks_memory(rt: HostRuntime) {
     let (input, expected) = OF_FIRST;

@@ -10,7 +10,7 @@ use std::process::Abort;
 use std::sync::Wait;
 use std::thread::Threads;
 
-/// Inputs, and what running them writes whatever the order of turns is.
+/// Inputs, and the output of their runs in any order of turns.
 static RUNS: [Row; 5] = [
     (
         &["lot_sim", "run"],
@@ -72,7 +72,7 @@ fn runs(rt: HostRuntime) {
     check_rows(&rt, rt.alloc(), &RUNS);
 }
 
-/// The output of playing or running the input, which is done.
+/// The output of playing or running the input, which succeeds.
 fn written<H: Abort + Threads + Wait + Sync>(
     rt: &H,
     alloc: Global,
@@ -85,7 +85,7 @@ fn written<H: Abort + Threads + Wait + Sync>(
     String::from_str(alloc, text).expect(rt, "memory")
 }
 
-/// Programs whose workers have turns to make, with a word of their last lines when they are run.
+/// Programs whose workers have turns to make, with a word of the last lines of their runs.
 const PROGRAMS: &[(&str, &str)] = &[
     (
         "lottery 1
@@ -144,7 +144,7 @@ fundx 3 base c spin
     ),
 ];
 
-/// Runs one program, and plays its schedule with another one. Compares whether the run has this word, and the reports
+/// Runs one program, and plays its schedule with the other one. Compares whether the run has this word, and the reports
 /// of both.
 fn check_played_back<H: Abort + Threads + Wait + Sync>(
     rt: &H,
@@ -158,7 +158,7 @@ fn check_played_back<H: Abort + Threads + Wait + Sync>(
     check_replayed(rt, alloc, run.as_str(), played);
 }
 
-/// Plays the schedule of what a run has written with this program, and compares the reports of both.
+/// Plays the schedule in a run's output with this program, and compares the reports of both.
 fn check_replayed<H: Abort + Threads + Wait + Sync>(
     rt: &H,
     alloc: Global,
@@ -172,13 +172,13 @@ fn check_replayed<H: Abort + Threads + Wait + Sync>(
     check_same_at(rt, &program, &is_same, &true);
 }
 
-/// The report of what a run has written, and the lines of its schedule.
+/// The report in a run's output, and the lines of its schedule.
 fn report_and_schedule<'a>(rt: &impl Abort, run: &'a str) -> (&'a str, &'a str) {
     let lines = run.find("\nschedule ").or(run.find("\nruns "));
     run.split_at(lines.expect(rt, "a schedule") + 1)
 }
 
-// The schedule that a run prints gives `play` the report that the run printed.
+// The schedule that a run prints gives `play` the run's report.
 #[test]
 fn a_run_is_played_back(rt: HostRuntime) {
     for (program, total) in PROGRAMS {
@@ -219,7 +219,7 @@ fn a_run_takes_sleeps_as_yields(rt: HostRuntime) {
     check_played_back(&rt, rt.alloc(), SLEEPS, YIELDS, "total turns 81 ");
 }
 
-/// Compares the text of why a run stopped.
+/// Compares the text of the reason for which a run stopped.
 fn check_stop(rt: &impl Abort, alloc: Global, stop: InputRunFault, text: &str) {
     let shown = format!(in alloc; "{stop}").expect(rt, "memory");
     check_same(rt, &shown.as_str(), &text);

@@ -1,4 +1,4 @@
-//! Tables and pictures of what threads have run, and lotteries that are explained.
+//! Tables and pictures of threads' ticks, and explained lotteries.
 use super::same::check_same_at;
 use super::{
     Row, check_output_of, check_refused_words, check_rows, check_words, check_words_on, ended_on,
@@ -35,7 +35,7 @@ mkthr b spin
 /// The table of both.
 const TICKS: &str = "tick,a,b\n0,0,0\n1,1,0\n2,2,0\n3,3,0\n4,4,0\n";
 
-/// What refuses the header of an unknown format.
+/// The refusal of a header with an unknown format.
 const BAD_HEADER: &str = "refused line 1 50 BadHeader\n";
 
 static TABLES: [Row; 5] = [
@@ -59,8 +59,8 @@ processor 1 quanta 2 idle 0 ticks 4
 total turns 8 quanta 2 ticks 4
 ";
 
-/// The report over two plays of `TIMED`, both the same: only thread `a` has tickets, so it wins each draw. These are at
-/// ticks 0, 2 and 4, the last of them at the end: `a` runs for two quanta of 2 ticks, all ticks that there are, and has
+/// The report over two plays of `TIMED`, both the same. Only thread `a` has tickets, so it wins each draw: those at
+/// ticks 0, 2 and 4, the last of them at the end. `a` runs for two quanta of 2 ticks, all ticks that there are, and has
 /// the whole value. The waits that its draws end began in the same tick. `b` weighs nothing, and its only wait doesn't
 /// end. The turns are 2 commands, 3 draws and 2 ends of quanta.
 const PLAYS: &str = "seeds 1 to 2
@@ -83,8 +83,8 @@ thread 2 b plays 2 quanta mean 0 least 0 most 0 ticks mean 0 least 0 most 0 \
 share mean 0% least 0% most 0%
 ";
 
-/// The report of `TIMED` as a table. Thread `a` wins as soon as it is ready, so it waits for 0 ticks each time; `b`
-/// weighs nothing, and its only wait doesn't end. Of no waits there is no mean, and no longest one.
+/// The report of `TIMED` as a table. Thread `a` wins as soon as it is ready, so it waits for 0 ticks each time. `b`
+/// weighs nothing, and its only wait doesn't end, so it has no mean and no longest wait.
 const TABLE: &str = "thread,name,quanta,ticks,share_percent,due_percent,value_percent,\
 ready_waits,ready_mean,ready_longest,mutex_waits,mutex_mean,mutex_longest,\
 reply_waits,reply_mean,reply_longest,refused,made,ended
@@ -93,7 +93,7 @@ reply_waits,reply_mean,reply_longest,refused,made,ended
 ";
 
 /// The report over two plays of `TIMED` as a table: the columns' names, and a row for each thread, with the numbers of
-/// `PLAYS`. Three fields stand for a figure, and are empty for one that no play has.
+/// `PLAYS`. A figure takes three fields, which are empty if no play has it.
 const TABLE_OF_PLAYS: &str = "thread,name,plays,quanta_mean,quanta_least,quanta_most,\
 ticks_mean,ticks_least,ticks_most,share_percent_mean,share_percent_least,share_percent_most,\
 due_percent_mean,due_percent_least,due_percent_most,value_percent_mean,value_percent_least,value_percent_most,\
@@ -117,7 +117,7 @@ ticks_mean,ticks_least,ticks_most,share_percent_mean,share_percent_least,share_p
 2,b,2,0,0,0,0,0,0,0,0,0
 ";
 
-/// An input in which base funds `alice`, that one `task`, and `task` the only thread that runs.
+/// An input in which base funds `alice`, `alice` funds `task`, and `task` the only thread that runs.
 const CURRENCIES: &str = "lottery 3
 quantum 2
 for 4
@@ -150,7 +150,7 @@ share_percent_mean,share_percent_least,share_percent_most,due_percent_mean,due_p
 /// The table of `INPUT`.
 const SHORT_TABLE: &str = "thread,name,quanta,ticks\n1,a,2,4\n2,b,0,0\n";
 
-/// Words for the report as a table, and for that over several plays.
+/// Words for the report as a table, and for the table over several plays.
 const TABLE_WORDS: &[&str] = &["lot_sim", "report", "--csv"];
 
 const OVER_PLAYS: &[&str] = &["lot_sim", "report", "--csv", "--seeds", "1..2"];
@@ -168,8 +168,8 @@ const BY_THREAD: &[&str] = &["lot_sim", "report", "--csv", "--by", "thread"];
 
 const BY_CURRENCY: &[&str] = &["lot_sim", "report", "--by=currency", "--csv"];
 
-/// Words, inputs and tables. Without threads a table has its first row alone. An input of another format has no table
-/// of currencies.
+/// Words, inputs and tables. Without threads a table has only its first row. An input of another format has no table of
+/// currencies.
 static REPORT_TABLES: [Row; 10] = [
     (TABLE_WORDS, INPUT, 0, SHORT_TABLE),
     (TABLE_WORDS, TIMED, 0, TABLE),
@@ -288,7 +288,7 @@ const DIFFERENT_ROWS: &str = "
 /// The row of its currency.
 const DIFFERENT_CURRENCY: &str = "\n1,g,3,0.666,0,1,22.222,0,33.333,38.888,16.666,50\n";
 
-/// Words, and the end of what they have written.
+/// Words, and the end of their output.
 const DIFFERENT_ENDS: &[(&[&str], &str)] = &[
     (&["lot_sim", "report", "--seeds", "1..3"], DIFFERENT_PLAYS),
     (
@@ -310,7 +310,7 @@ fn different_plays(rt: HostRuntime) {
     }
 }
 
-/// Compares the end of what these words have written.
+/// Compares the end of these words' output.
 fn check_end<H: Abort + Threads + Wait + Sync>(
     rt: &H,
     alloc: Global,
@@ -322,7 +322,7 @@ fn check_end<H: Abort + Threads + Wait + Sync>(
     check_same_at(rt, &words, &(ended.code, is_there), &(0, true));
 }
 
-/// Seeds that aren't from one to another.
+/// Seeds in the wrong form.
 const NO_SEEDS: &[&[&str]] = &[
     &["lot_sim", "report", "--seeds", "1"],
     &["lot_sim", "report", "--seeds", "2..1"],
@@ -330,7 +330,7 @@ const NO_SEEDS: &[&[&str]] = &[
     &["lot_sim", "report", "--seeds", "1..2147483647"],
 ];
 
-/// The report alone, and seeds that aren't from one to another.
+/// The report alone, and seeds in the wrong form.
 #[test]
 fn reports(rt: HostRuntime) {
     check_words_on(&rt, rt.alloc(), "report", INPUT, 0, REPORT);
@@ -372,8 +372,8 @@ fn draws(rt: HostRuntime) {
     check_output_of(&rt, rt.alloc(), &words, INPUT, 0, table);
 }
 
-/// The words, and parts of the picture that the program draws. Between ticks 1 and 4 thread a runs for three ticks.
-/// It is alone, and in each window that isn't empty it has all ticks.
+/// Words, and parts of the picture that the program draws. Between ticks 1 and 4 thread a runs for three ticks. It is
+/// the only thread, so it has all ticks in each window that isn't empty.
 const PICTURES: &[(&[&str], &[&str])] = &[
     (
         &["lot_sim", "chart", "--title", "One & none"],
@@ -428,8 +428,8 @@ fn pictures(rt: HostRuntime) {
     }
 }
 
-/// The picture of `CURRENCIES` by currency, in parts. Both lines have all ticks and are due all of them, and the name
-/// of the second stands below that of the first.
+/// Parts of the picture of `CURRENCIES` by currency. Both lines have all ticks and are due all of them, and the second
+/// name is below the first.
 const CURRENCY_PARTS: &[&str] = &[
     "<title id='title'>Who has run how long</title>\n",
     ">what the threads of each currency have run, in ticks</text>\n",
@@ -448,7 +448,7 @@ fn pictures_by_currency(rt: HostRuntime) {
 /// Words, and an input.
 type Call<'a> = (&'a [&'a str], &'a str);
 
-/// Calls the program twice. The first call ends well, and its output is that of the second, or differs.
+/// Calls the program twice. The first call succeeds, and its output equals that of the second, or differs.
 fn check_alike<H: Abort + Threads + Wait + Sync>(
     rt: &H,
     alloc: Global,
@@ -462,7 +462,7 @@ fn check_alike<H: Abort + Threads + Wait + Sync>(
     check_same_at(rt, &first, &found, &(0, is_alike));
 }
 
-/// Calls the program, and returns the exit status and whether this is the output.
+/// Calls the program, and returns the exit status and whether the output is this.
 fn ended_alike<H: Threads + Wait + Sync>(
     rt: &H,
     alloc: Global,
@@ -485,8 +485,8 @@ const BY_KIND: &[(&[&str], &str)] = &[
     ),
 ];
 
-/// The option changes nothing if it asks for threads, nor, except a title that isn't given, in a picture of another
-/// format.
+/// The option for threads changes nothing. In a picture of another format the option for currencies changes only the
+/// default title.
 #[test]
 fn pictures_by_thread(rt: HostRuntime) {
     let without: &[&str] = &["lot_sim", "chart", "--title", "x"];
@@ -526,7 +526,7 @@ fn explained(rt: HostRuntime) {
     check_words(&rt, rt.alloc(), &["lot_sim", "explain", "x", "y"], 2, false);
 }
 
-/// Two threads share what a currency is worth as 3 to 1. Its third ticket funds nothing.
+/// Two threads share a currency's value as 3 to 1. Its third ticket funds nothing.
 const FUNDED: &str = "lottery 3
 quantum 9
 for 4
@@ -587,7 +587,7 @@ processor 1 quanta 3 idle 0 ticks 4 unused 0
 total turns 12 quanta 3 ticks 4 refused 0 left 0
 ";
 
-/// `--funding` has the funding written at each draw, and changes nothing in another format.
+/// With `--funding` the output has the funding at each draw. It changes nothing in another format.
 static FUNDING_ROWS: [Row; 2] = [
     (
         &["lot_sim", "explain", "--funding"],
@@ -622,7 +622,7 @@ fundx 1 base c spin
     .expect(rt, "memory")
 }
 
-/// Processor 1 has the seed that was given, and processor 2 the next, 5 * 48271 = 241355, whatever seeds the input has.
+/// Processor 1 has the given seed, and processor 2 the next, 5 * 48271 = 241355, whatever seeds the input has.
 #[test]
 fn given_seeds(rt: HostRuntime) {
     let wanted = with_seeds(&rt, rt.alloc(), "seed 5 241355\n");
@@ -630,7 +630,7 @@ fn given_seeds(rt: HostRuntime) {
     check_given_seed(&rt, rt.alloc(), "seed 1 2\n", wanted.as_str());
 }
 
-/// Gives the seed to the input with this line of seeds, and compares it with the input that has that seed itself.
+/// Gives the seed to the input with this line of seeds, and compares it with an input that has these seeds itself.
 fn check_given_seed<H: Abort + Threads + Wait + Sync>(
     rt: &H,
     alloc: Global,
@@ -645,7 +645,7 @@ fn check_given_seed<H: Abort + Threads + Wait + Sync>(
 
 const VIEWS: &[&str] = &["play", "report", "explain", "shares", "chart"];
 
-/// Compares each view of the input that is given the seed with that of the other input.
+/// Compares each view of the input with the given seed with that of the other input.
 fn check_given_views<H: Abort + Threads + Wait + Sync>(
     rt: &H,
     alloc: Global,
@@ -666,8 +666,8 @@ const BESIDE_OPTIONS: &[&[&str]] = &[
     &["lot_sim", "chart", "--seed=7", "--title", "x"],
 ];
 
-/// The least and the greatest seed are taken, beside the other options and before or after them. A faulty line of seeds
-/// is refused, though another seed is given.
+/// The program takes the least and the largest seed, before or after the other options. It refuses a faulty line of
+/// seeds even with another seed given.
 #[test]
 fn given_seeds_beside_options(rt: HostRuntime) {
     let alloc = rt.alloc();
@@ -679,7 +679,7 @@ fn given_seeds_beside_options(rt: HostRuntime) {
     check_output_of(&rt, alloc, &words, "lottery 1\nseed 0\n", 1, refused);
 }
 
-/// Checks that the words are taken, and something is written.
+/// Checks that the program takes the words, and writes something.
 fn check_taken<H: Abort + Threads + Wait + Sync>(rt: &H, alloc: Global, words: &[&str]) {
     let ended = ended_on(rt, alloc, words, INPUT);
     check_same_at(
@@ -693,13 +693,13 @@ fn check_taken<H: Abort + Threads + Wait + Sync>(rt: &H, alloc: Global, words: &
 /// Words that are no seed.
 const NO_SEED: &[&str] = &["", "0", "x", "1.5", "2147483647", "99999999999999999999"];
 
-/// Words with a seed that is refused, and `run`, which takes no seed.
+/// Words with a refused seed, and `run`, which takes no seed.
 const REFUSED_SEEDS: &[&[&str]] = &[
     &["lot_sim", "play", "--seed", "-1"],
     &["lot_sim", "run", "--seed", "1"],
 ];
 
-/// A seed that is none is refused by name, and `run` takes no seed.
+/// The diagnostics name the refused seed, and `run` takes no seed.
 #[test]
 fn refused_seeds(rt: HostRuntime) {
     let alloc = rt.alloc();
@@ -709,7 +709,7 @@ fn refused_seeds(rt: HostRuntime) {
     check_refused_words(&rt, alloc, REFUSED_SEEDS);
 }
 
-/// Checks that this seed is refused by name.
+/// Checks that the diagnostics name this refused seed.
 fn check_refused_seed<H: Abort + Threads + Wait + Sync>(rt: &H, alloc: Global, seed: &str) {
     let ended = ended_on(rt, alloc, &["lot_sim", "play", "--seed", seed], INPUT);
     let is_named = is_error_of_seed(ended.errors.as_slice());

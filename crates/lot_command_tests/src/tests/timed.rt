@@ -378,8 +378,8 @@ total turns 8 quanta 3 ticks 12 refused 0 left 0
 ",
 );
 
-/// Two threads that wake at the same time, while both processors wait: `a`, which has the lower number, comes first,
-/// and went to sleep last. Then `a` sleeps to the last tick, and `b` past it.
+/// Two threads that wake at the same time, while both processors wait: `a` wakes first, since its number is lower,
+/// though it went to sleep last. Then `a` sleeps to the last tick, and `b` past it.
 const SLEEPERS: (&str, &str) = (
     "lottery 3
 processors 2
@@ -451,7 +451,7 @@ total turns 7 quanta 2 ticks 5 refused 0 left 0
 ",
 );
 
-/// A thread that sleeps with a mutex. The one that waits for it has no value until the owner wakes, and then lends to
+/// A thread that sleeps with a mutex. The thread that waits for it is worth 0 until the owner wakes, and then lends to
 /// it.
 const SLEEPING_OWNER: (&str, &str) = (
     "lottery 3
@@ -518,8 +518,8 @@ total turns 26 quanta 8 ticks 33 refused 0 left 0 ended 3 mean 31.666 longest 36
 ",
 );
 
-/// Numbers that are given again. Two sleepers are killed in their sleep, and each time the next has the number: it
-/// wakes by its own time. The second's wake comes before the third sleeps, and is refused.
+/// Reused numbers. Two sleepers are killed in their sleep, and each time the next thread has the number: it wakes at
+/// its own time. The second's wake comes before the third sleeps, and is refused.
 const NUMBERS_AGAIN: (&str, &str) = (
     "lottery 3
 quantum 10

@@ -32,7 +32,7 @@ fn refused_inputs(rt: HostRuntime) {
     check_told(&rt, rt.alloc(), "run", input, 1, expected);
 }
 
-/// Plays the input with an output for diagnostics that fails, and returns the exit status and whether this was
+/// Plays the input with an output for diagnostics that fails. Returns the exit status and whether this output was
 /// written.
 fn ended_untold<H: Threads + Wait + Sync>(
     rt: &H,
@@ -194,7 +194,7 @@ and 2 more commands that were refused
     );
 }
 
-// A server without tickets of its own: after its reply nothing funds it, so it never takes the second call, and both
+// A server without tickets of its own: after its reply no ticket funds it, so it never takes the second call, and both
 // clients wait.
 #[test]
 fn stuck_server(rt: HostRuntime) {
@@ -298,7 +298,7 @@ fundx 1 base b wants
     check_told(&rt, rt.alloc(), "play", input, 0, "");
 }
 
-/// An output that keeps its last two writes alone.
+/// An output that stores only its last two writes.
 struct LastWrites {
     before: Vec<u8>,
     last: Vec<u8>,
@@ -350,7 +350,8 @@ fn played_to_the_end<H: Threads + Wait + Sync>(
     (code, output.end_with(text).unwrap_or(false), errors)
 }
 
-// Two turns a tick: the last is the draw at tick 7999999. The output has some 400 megabytes, so only its end is kept.
+// Two turns a tick: the last is the draw at tick 7999999. The output has some 400 megabytes, so the test stores only
+// its end.
 #[test]
 fn cut_at_the_largest_number_of_turns(rt: HostRuntime) {
     let input = "lottery 3
@@ -417,17 +418,17 @@ endscript
 fundx 5 base a one
 ";
 
-/// The subcommands that show what an input does in another way than `play`.
+/// The subcommands that show an input in another way than `play`.
 pub(crate) const VIEWS: &[&str] = &["report", "explain", "shares", "chart"];
 
-/// Shows the input with each subcommand that does, and checks that it tells what `play` does.
+/// Shows the input with each subcommand, and checks that the diagnostics equal those of `play`.
 fn check_told_alike<H: Abort + Threads + Wait + Sync>(rt: &H, alloc: Global, input: &str) {
     let played = ended_on(rt, alloc, &["lot_sim", "play"], input);
     check_same_at(rt, &input, &played.errors.is_empty(), &false);
     check_views(rt, alloc, input, played.errors.as_slice());
 }
 
-/// Checks that each subcommand that shows the input tells this.
+/// Checks that each subcommand that shows the input has these diagnostics.
 fn check_views<H: Abort + Threads + Wait + Sync>(rt: &H, alloc: Global, input: &str, told: &[u8]) {
     for word in VIEWS {
         let ended = ended_telling(rt, alloc, word, input, told);
@@ -454,8 +455,8 @@ fn told_alike(rt: HostRuntime) {
     check_told_alike(&rt, rt.alloc(), LOCKED_TWICE);
 }
 
-/// Shows the input, and returns the exit status, whether the output ends with this, and whether the diagnostics begin
-/// with this.
+/// Shows the input. Returns the exit status, whether the output ends with this, and whether the diagnostics begin with
+/// this.
 fn ended_with<H: Threads + Wait + Sync>(
     rt: &H,
     alloc: Global,
@@ -469,13 +470,13 @@ fn ended_with<H: Threads + Wait + Sync>(
     (ended.code, is_shown, is_told)
 }
 
-/// What each subcommand shows at the end of the first input above.
+/// The end of each subcommand's output for the first input above.
 const SHOWN: &[(&str, &str)] = &[
     ("shares", "tick,a,b\n0,0,0\n1,1,0\n2,2,0\n"),
     ("chart", "</svg>\n"),
 ];
 
-// A refused command has no part in tables and pictures, and its line is told.
+// A refused command takes no part in tables and pictures, and the diagnostics name its line.
 #[test]
 fn refused_commands_of_tables(rt: HostRuntime) {
     let told = "line 7: the command was refused: ";
@@ -486,7 +487,7 @@ fn refused_commands_of_tables(rt: HostRuntime) {
     }
 }
 
-/// Inputs of standard input, and what a play of each tells besides its output.
+/// Inputs on standard input, and the diagnostics of a play of each.
 const SHOW_LITTLE: &[(&str, &str)] = &[
     (
         "lottery 3\nfor 300\n",
@@ -548,7 +549,7 @@ fn runs_without_turns(rt: HostRuntime) {
 const NO_THREAD: &str =
     "nothing runs: no line makes a thread, as 'fundx AMOUNT CURRENCY NAME SCRIPT' does\n";
 
-/// The beginnings of what is shown, and what is told.
+/// The starts of intervals, and the diagnostics.
 const BEGINNINGS: &[(&str, &str)] = &[
     ("299", ""),
     (

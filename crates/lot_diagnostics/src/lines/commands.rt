@@ -7,7 +7,7 @@ use crate::lines::line::{ends_line, first_word};
 use crate::lines::script::{OpenScript, after_line};
 use lot_simulation::{BodyWord, Form};
 
-/// A command of an input that isn't refused.
+/// A command of an accepted input.
 #[derive(Clone, Copy)]
 pub struct InputCommand<'a> {
     /// The number of its line, from 1.
@@ -25,8 +25,8 @@ pub struct InputCommand<'a> {
 impl<'a> InputCommand<'a> {
     /// The command with this index, from 0, if there is one.
     ///
-    /// It reads the input up to there, and allocates nothing: so nothing about an input needs to be stored before one
-    /// of its commands has to be named.
+    /// It reads the input up to there, and allocates nothing. So nothing needs to be stored of an input until a
+    /// diagnostic names one of its commands.
     pub fn at(input: &'a [u8], place: usize) -> Option<InputCommand<'a>> {
         let mut reading = Reading::BEGUN;
         for line in input.split(ends_line) {
@@ -64,13 +64,13 @@ impl<'a> InputCommand<'a> {
         count
     }
 
-    /// The word of the command that is the argument with this name.
+    /// The word of the command that is the argument with this name, if it has one.
     pub fn argument(&self, name: &str) -> Option<&'a str> {
         argument_named(self.form, self.line, name)
     }
 }
 
-/// How far the lines of an input have been read.
+/// The progress of reading the lines of an input.
 #[derive(Drop)]
 struct Reading {
     script: Option<OpenScript>,
@@ -83,7 +83,7 @@ struct Reading {
 }
 
 impl Reading {
-    /// No line.
+    /// Before the first line.
     const BEGUN: Reading = Reading {
         script: None,
         number: 0,
@@ -91,7 +91,7 @@ impl Reading {
         time: 0,
     };
 
-    /// Reads the next line, and returns its command, if it is one.
+    /// Reads the next line, and returns its command, if it has one.
     fn pass<'a>(&mut self, line: &'a [u8]) -> Option<InputCommand<'a>> {
         self.number = self.number.saturating_add(1);
         if let Some(open) = self.script {
@@ -136,7 +136,7 @@ fn time_given(form: Form, line: &[u8]) -> u32 {
     given.parse::<u32>().unwrap_or(0)
 }
 
-/// The line, from 1, of the command with this index, from 0, in an input that isn't refused, if there is one. It
+/// The number of the line, from 1, of the command with this index, from 0, in an accepted input, if there is one. It
 /// allocates nothing.
 pub fn line_of_command(input: &[u8], place: usize) -> Option<u32> {
     Some(InputCommand::at(input, place)?.number)

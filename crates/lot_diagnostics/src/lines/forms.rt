@@ -1,4 +1,4 @@
-//! The forms of lines, and the words that stand in their places.
+//! The forms of lines, and the words at their arguments' places.
 ghost use Rattle.std.specs.Prelude.{◌≡◌, ◌≢◌, IsTrue, IsFalse};
 
 use crate::lines::keywords::{header_word, row_of};
@@ -18,7 +18,10 @@ pub struct Shape<'a> {
 impl fmt::Display for Shape<'_> {
     fn fmt<W: fmt::Write>(&self, f: &mut fmt::Formatter<W>) -> fmt::Result {
         f.write_str(self.word)?;
-        for (name, _) in self.form.arguments() {
+        for place in 0..self.form.len() {
+            let Some((name, _)) = self.form.argument(place) else {
+                return Ok(());
+            };
             match self.form {
                 Form::PerProcessor(_) => {
                     write!(f, " {name}1 .. {name}P, with a number for each processor")?
@@ -34,32 +37,31 @@ impl fmt::Display for Shape<'_> {
     }
 }
 
-/// The argument at this index after the first word, from 0. The name of a new ticket is none.
+/// The argument at this index after the first word, from 0, if the line has one. The name of a new ticket has none.
 pub fn argument_at(form: Form, place: usize) -> Option<Argument> {
-    let arguments = form.arguments();
-    match (form, arguments.len()) {
+    let (_, argument) = match (form, form.len()) {
         (_, 0) => None,
-        (Form::Naming(_), len) if len <= place => None,
-        (_, len) => Some(arguments[place % len].1),
-    }
+        (Form::Naming(_), _) => form.argument(place),
+        (_, len) => form.argument(place % len),
+    }?;
+    Some(argument)
 }
 
 /// The form in an input that is timed or isn't. Only a timed one has names of tickets.
 pub fn form_in(is_timed: bool, form: Form) -> Form
     ensures timed { IsTrue is_timed → result ≡ form }
-    ensures other { ((arguments : _) → form ≢ Form.Naming arguments) → result ≡ form }
-    ensures untimed { (arguments : _) → IsFalse is_timed → form ≡ Form.Naming arguments
-        → result ≡ Form.Command arguments }
+    ensures other { ((verb : _) → form ≢ Form.Naming verb) → result ≡ form }
+    ensures untimed { (verb : _) → IsFalse is_timed → form ≡ Form.Naming verb → result ≡ Form.Command verb }
 {
     match form {
-        Form::Naming(arguments) if !is_timed => Form::Command(arguments),
+        Form::Naming(verb) if !is_timed => Form::Command(verb),
         _ => form,
     }
 }
 
 /// Whether a line may have this many words after the first.
 pub fn has_room_for(form: Form, count: usize, processors: u32) -> bool {
-    let len = form.arguments().len();
+    let len = form.len();
     match form {
         Form::Once(_) | Form::Command(_) => count == len,
         // With `as` and a name.
@@ -69,12 +71,12 @@ pub fn has_room_for(form: Form, count: usize, processors: u32) -> bool {
     }
 }
 
-/// The two words after the arguments of a line of this form, if it can name a ticket and has them: `as` and the name.
+/// The two words after the arguments of a line of this form, if it can name a ticket and has both: `as` and the name.
 pub fn words_at_end(form: Form, line: &[u8]) -> Option<(&str, &str)> {
-    let Form::Naming(arguments) = form else {
+    let Form::Naming(_) = form else {
         return None;
     };
-    let place = arguments.len().saturating_add(1);
+    let place = form.len().saturating_add(1);
     let name = word_at(line, place.saturating_add(1))?;
     Some((word_at(line, place)?, name))
 }
@@ -89,22 +91,21 @@ pub(crate) fn is_command(form: Form) -> bool {
 
 /// The index in a line of this form of the argument with this name, where the first word has index 0.
 fn place_of(form: Form, name: &str) -> Option<usize> {
-    let mut place = 1usize;
-    for (argument, _) in form.arguments() {
-        if *argument == name {
-            return Some(place);
+    for place in 0..form.len() {
+        match form.argument(place) {
+            Some((argument, _)) if argument == name => return Some(place.saturating_add(1)),
+            _ => {}
         }
-        place = place.saturating_add(1);
     }
     None
 }
 
-/// The argument with this name of a line of this form, if it has that many words.
+/// The argument with this name of a line of this form, if the line has that many words.
 pub(crate) fn argument_named<'a>(form: Form, line: &'a [u8], name: &str) -> Option<&'a str> {
     word_at(line, place_of(form, name)?)
 }
 
-/// The form of a line outside scripts that begins with this word.
+/// The form of a line outside scripts that begins with this word, if lines do.
 pub fn form_outside(word: &str) -> Option<Form> {
     match header_word(word) {
         Some(HeaderWord::Lottery) => None,

@@ -23,13 +23,13 @@ fn header_argument<'a>(input: &'a [u8], word: HeaderWord, name: &str) -> Option<
     argument_named(form, line, name)
 }
 
-/// The number that is the argument with this name of the header line that begins with this word, if the input has such
-/// a line.
+/// The argument with this name, as a number, of the header line that begins with this word, if the input has such a
+/// line.
 pub fn header_number(input: &[u8], word: HeaderWord, name: &str) -> Option<u32> {
     header_argument(input, word, name)?.parse::<u32>().ok()
 }
 
-/// Whether the input, which isn't refused, is timed.
+/// Whether the accepted input is timed.
 pub fn is_timed(input: &[u8]) -> bool {
     let version = header_argument(input, HeaderWord::Lottery, "VERSION").unwrap_or("");
     match Format::of_word(version.as_bytes()) {

@@ -1,8 +1,6 @@
 //! The words of all formats. The input's format decides where a word may stand.
 
-use lot_simulation::{
-    BODY_WORDS, BodyWord, Format, HEADER_WORDS, HeaderWord, SCRIPT_WORDS, ScriptWord, WordRow,
-};
+use lot_simulation::{BodyWord, Format, HeaderWord, ScriptWord, WordRow};
 use std::str;
 
 /// The word of the header with this spelling, if there is one.
@@ -15,25 +13,18 @@ pub fn body_word(word: &str) -> Option<BodyWord> {
     BodyWord::of_token(Format::V3, word.as_bytes())
 }
 
-// The tables as static data: a constant would be built anew at each call.
-static HEADER_TABLE: [WordRow<HeaderWord>; 10] = HEADER_WORDS;
-
-static BODY_TABLE: [WordRow<BodyWord>; 20] = BODY_WORDS;
-
-static SCRIPT_TABLE: [WordRow<ScriptWord>; 14] = SCRIPT_WORDS;
-
 /// A word of the header, of the body or of a script.
 pub trait Keyword: Copy + PartialEq + 'static {
-    /// The rows of all such words.
+    /// The rows of all words of this kind.
     fn rows() -> &'static [WordRow<Self>];
 
-    /// Whether inputs of this format have such a word with this spelling.
+    /// Whether inputs of this format have a word of this kind with this spelling.
     fn is_read(format: Format, spelling: &[u8]) -> bool;
 }
 
 impl Keyword for HeaderWord {
     fn rows() -> &'static [WordRow<HeaderWord>] {
-        &HEADER_TABLE
+        HeaderWord::table()
     }
 
     fn is_read(format: Format, spelling: &[u8]) -> bool {
@@ -43,7 +34,7 @@ impl Keyword for HeaderWord {
 
 impl Keyword for BodyWord {
     fn rows() -> &'static [WordRow<BodyWord>] {
-        &BODY_TABLE
+        BodyWord::table()
     }
 
     fn is_read(format: Format, spelling: &[u8]) -> bool {
@@ -53,7 +44,7 @@ impl Keyword for BodyWord {
 
 impl Keyword for ScriptWord {
     fn rows() -> &'static [WordRow<ScriptWord>] {
-        &SCRIPT_TABLE
+        ScriptWord::table()
     }
 
     fn is_read(format: Format, spelling: &[u8]) -> bool {

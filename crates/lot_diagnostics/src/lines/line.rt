@@ -3,7 +3,7 @@
 use std::str;
 use std::str::SplitAsciiWhitespace;
 
-/// The words of a line. A line that isn't text has none.
+/// The words of a line. A line that isn't UTF-8 has none.
 pub fn words_of(line: &[u8]) -> SplitAsciiWhitespace<'_> {
     str::from_utf8(line).unwrap_or("").split_ascii_whitespace()
 }

@@ -6,12 +6,12 @@ use crate::lines::line::{ends_line, first_word};
 use lot_simulation::{AS_WORD, BodyWord};
 use std::fmt;
 
-/// A kind of things that have names.
+/// A kind of named things.
 #[derive(Clone, Copy, Debug)]
 pub enum Named {
-    /// Those whose lines begin with this word.
+    /// Things whose lines begin with this word.
     ByWord(BodyWord),
-    /// Tickets, whose names `as` gives.
+    /// Tickets, which get their names by `as`.
     Ticket,
 }
 
@@ -34,7 +34,7 @@ impl fmt::Display for Named {
     }
 }
 
-/// The name that the line gives, if it begins with one of these words: each is a word of lines that give a name.
+/// The name that the line gives, if it begins with one of these words, all of which begin lines that give a name.
 pub fn name_given<'a>(keywords: &[BodyWord], line: &'a [u8]) -> Option<&'a str> {
     argument_given(keywords, line, "NAME")
 }
@@ -78,7 +78,7 @@ pub fn is_given(lines: &[u8], kind: Named, name: &str) -> bool {
     false
 }
 
-/// The name with this number, from 1, among those that these lines give to things of this kind.
+/// The name with this number, from 1, among those that these lines give to things of this kind, if they give so many.
 pub fn name_numbered(lines: &[u8], kind: Named, number: u32) -> Option<&str> {
     let mut before = 0u32;
     for line in lines.split(ends_line) {

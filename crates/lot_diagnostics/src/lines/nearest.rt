@@ -9,29 +9,29 @@ use std::alloc::{AllocError, Global};
 use std::fmt;
 use strsim::osa_distance;
 
-/// The largest number of wrong, missing or extra letters. Two neighbours in each other's place are one, and a capital
-/// is none.
+/// The largest number of wrong, missing or extra letters in a near text. Two swapped neighbours count as one, and a
+/// capital as none.
 const MOST_EDITS: usize = 2;
 
-/// The text nearest to a misspelt one, if one is near. If it is the same text, nothing is suggested.
+/// The text nearest to a misspelt word, if one is near. There is no suggestion if a text is the same.
 #[derive(Clone, Copy, Debug)]
 pub struct Nearest<'a> {
     text: Option<&'a str>,
-    /// How far it is, 0 if it is the same text.
+    /// The distance, 0 for the same text.
     distance: usize,
 }
 
-/// Farther than any text that is near.
+/// A distance above that of any near text.
 const FAR: usize = 2 * MOST_EDITS + 3;
 
 impl<'a> Nearest<'a> {
-    /// None yet.
+    /// No text so far.
     pub const NONE: Nearest<'static> = Nearest {
         text: None,
         distance: FAR,
     };
 
-    /// The nearer of both texts to the misspelt one. If out of memory, nothing is suggested, and no later text either.
+    /// The nearer of both texts to the misspelt word. If out of memory, it suggests neither this text nor a later one.
     pub fn or(self, alloc: Global, misspelt: &str, text: &'a str) -> Nearest<'a> {
         match edits_between(alloc, misspelt, text) {
             Ok(edits) => self.or_at(distance_of(misspelt, text, edits), edits, text),
@@ -42,7 +42,8 @@ impl<'a> Nearest<'a> {
         }
     }
 
-    /// The nearer of both texts, where the other is as far as this, by so many edits. Not all its letters are wrong.
+    /// The nearer of both texts, given the other's distance and number of edits. A text whose letters are all wrong
+    /// isn't near.
     fn or_at(self, distance: usize, edits: usize, text: &'a str) -> Nearest<'a> {
         if distance < self.distance && edits < text.len() {
             Nearest {
@@ -54,7 +55,7 @@ impl<'a> Nearest<'a> {
         }
     }
 
-    /// The text, which is empty if none is near. If out of memory, there is none.
+    /// The text, empty if none is near, or `None` if out of memory.
     pub fn text(self) -> Option<&'a str> {
         match self.text {
             Some(text) => Some(text),
@@ -64,13 +65,14 @@ impl<'a> Nearest<'a> {
     }
 }
 
-/// The number of edits between two texts. Capitals are none.
+/// The number of edits between two texts. Capitals count as none.
 fn edits_between(alloc: Global, misspelt: &str, text: &str) -> Result<usize, AllocError> {
     let misspelt = misspelt.to_ascii_lowercase(alloc)?;
     osa_distance(alloc, misspelt.as_str(), text)
 }
 
-/// How far a text is from a misspelt one by so many edits: of equals one of the same length is nearer.
+/// The distance of a text from a misspelt word, given the number of edits: among equals a text of the same length is
+/// nearer.
 fn distance_of(misspelt: &str, text: &str, edits: usize) -> usize
     ensures same { misspelt.now ≡ text.now → result ≡ 0 }
     ensures other { misspelt.now ≢ text.now → 0 < result }
@@ -89,14 +91,13 @@ impl fmt::Display for Nearest<'_> {
     fn fmt<W: fmt::Write>(&self, f: &mut fmt::Formatter<W>) -> fmt::Result {
         match self.text {
             Some(text) if self.distance > 0 => write!(f, "; did you mean '{text}'?"),
-            // The same text isn't misspelt.
+            // The same text is no misspelling.
             _ => Ok(()),
         }
     }
 }
 
-/// The word of this table that is nearest to this one. It looks at words of timed inputs last, and only for such an
-/// input.
+/// The word of this table nearest to this one. It looks at words of timed inputs last, and only for such an input.
 pub fn nearest_word<W: Keyword>(
     alloc: Global,
     table: &[WordRow<W>],
@@ -106,8 +107,8 @@ pub fn nearest_word<W: Keyword>(
     nearer_word(alloc, Nearest::NONE, table, is_timed, misspelt)
 }
 
-/// The word of this table that is nearest to the misspelt one, unless this text is as near. It looks at words of timed
-/// inputs last, and only for such an input.
+/// The word of this table nearest to the misspelt one, unless this text is as near. It looks at words of timed inputs
+/// last, and only for such an input.
 pub fn nearer_word<'a, W: Keyword>(
     alloc: Global,
     text: Nearest<'a>,
@@ -129,7 +130,7 @@ pub fn nearer_word<'a, W: Keyword>(
     nearest
 }
 
-/// The name nearest to this one that one of these lines gives, among the names of these kinds.
+/// The name nearest to this one, among those that one of these lines gives to things of these kinds.
 pub fn nearest_name<'a>(
     alloc: Global,
     lines: &'a [u8],

@@ -1,13 +1,13 @@
-//! Where a message points to.
+//! The location of a message.
 
 use std::fmt;
 
-/// Where a message points to, which begins it as compilers' messages do: a file by its name, and a line.
+/// The location at the start of a message, as in compilers' messages: a file, and a line.
 #[derive(Clone, Copy, Debug)]
 pub struct Location<'a> {
-    /// The name of the file, or none for standard input.
+    /// The name of the file, or `None` for standard input.
     pub file: Option<&'a str>,
-    /// The line, from 1, or none for the whole input.
+    /// The line, from 1, or `None` for the whole input.
     pub line: Option<u32>,
 }
 

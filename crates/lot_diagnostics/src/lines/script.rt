@@ -51,7 +51,7 @@ impl OpenScript {
     }
 }
 
-/// The script after a line inside it that isn't refused, if it is still open.
+/// The script after an accepted line inside it, if it is still open.
 pub fn after_line(script: OpenScript, line: &[u8]) -> Option<OpenScript> {
     let mut open = script;
     let mut is_argument = false;
@@ -63,7 +63,7 @@ pub fn after_line(script: OpenScript, line: &[u8]) -> Option<OpenScript> {
             is_argument = false;
         } else if let Some((_, word, form)) = row_of::<ScriptWord>(word) {
             open = open.after(word)?;
-            is_argument = !form.arguments().is_empty();
+            is_argument = form.len() > 0;
         }
     }
     Some(open)

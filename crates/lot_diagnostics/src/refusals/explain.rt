@@ -1,5 +1,5 @@
-//! The problem with the refused line, in the order in which the reader finds it: first its bytes, then its first
-//! word, then its number of words, then each of them, and then the limit that it exceeds.
+//! The problem with the refused line, in the order in which the parser finds it: first its bytes, then its first word,
+//! then its number of words, then each of them, and then a limit.
 
 use crate::lines::{
     Keyword, Named, OpenScript, Shape, argument_at, body_word, count_words, first_word, form_in,
@@ -43,7 +43,7 @@ pub(crate) fn problem_of<'a>(
     }
 }
 
-/// Whether the input is too long, and the line isn't. Such a line may be one that is ignored.
+/// Whether the input is too long, but not the line. Such a line may be an ignored one.
 fn is_long_input(refused: &Refused<'_>) -> bool {
     refused.line.len() <= 4096 && 16777216 < refused.end
 }
@@ -57,7 +57,7 @@ fn is_timed_start(line: &[u8]) -> bool {
     }
 }
 
-/// The problem with a first line that begins with this word, and isn't that of an input.
+/// The problem with a first line that begins with this word, and isn't one of an input.
 fn start_problem(word: &str) -> HeaderProblem<'_> {
     if word.as_bytes() != FIRST_WORD && word.as_bytes().eq_ignore_ascii_case(FIRST_WORD) {
         HeaderProblem::CapitalStart
@@ -75,7 +75,7 @@ fn header_problem<'a>(refused: &Refused<'a>, word: &'a str) -> HeaderProblem<'a>
     HeaderProblem::LateHeader { word, lines }
 }
 
-/// As `header_problem`, in a timed input. A header line that isn't late is refused if the input ends with it.
+/// Like `header_problem`, in a timed input. A header line that isn't late is refused only if the input ends with it.
 fn timed_header_problem<'a>(refused: &Refused<'a>, word: &'a str) -> HeaderProblem<'a> {
     let Some(header) = header_word(word) else {
         return HeaderProblem::NoDuration;
@@ -109,10 +109,10 @@ fn mark_problem(refused: &Refused<'_>) -> Option<ByteProblem> {
 /// The byte order mark of UTF-8.
 const MARK: &[u8] = b"\xef\xbb\xbf";
 
-/// That of UTF-16 with the low byte first.
+/// The byte order mark of UTF-16, low byte first.
 const LITTLE_MARK: &[u8] = b"\xff\xfe";
 
-/// That of UTF-16 with the high byte first.
+/// The byte order mark of UTF-16, high byte first.
 const BIG_MARK: &[u8] = b"\xfe\xff";
 
 /// The problem with the line's bytes: a byte order mark, too many, or the first that is neither a separator nor
@@ -179,7 +179,7 @@ fn script_problem<'a>(
     loop_problem(script, keyword)
 }
 
-/// The problem with the end of a loop or of the script, if the word is one.
+/// The problem with the end of a loop or of the script, if the word is one of these.
 pub(crate) fn loop_problem(script: OpenScript, word: ScriptWord) -> Option<Problem<'static>> {
     match word {
         ScriptWord::End if script.loops == 0 => Some(Problem::Form(FormProblem::NoLoop)),
@@ -227,7 +227,7 @@ fn body_problem<'a>(alloc: Global, refused: &Refused<'a>, word: &'a str) -> Opti
     Some(Problem::Keyword(KeywordProblem::NoBodyLine { word, hint }))
 }
 
-/// The words to be told of one that is none: these, if it begins with a letter as words do.
+/// The words to list in place of this one: `words` if it begins with a letter, as words do.
 fn words_told(word: &str, words: Words) -> Words {
     match word.as_bytes().first() {
         Some(byte) if byte.is_ascii_alphabetic() => words,
@@ -272,7 +272,7 @@ fn form_problem<'a>(
     new_problem(refused, name, Named::Ticket)
 }
 
-/// The problem with the words together of a line that must have this shape, if there is one.
+/// The problem with the number of words of a line that must have this shape, if there is one.
 fn shape_problem<'a>(refused: &Refused<'a>, shape: Shape<'a>) -> Option<FormProblem<'a>> {
     let count = count_words(refused.line).saturating_sub(1);
     if !has_room_for(shape.form, count, refused.processors) {
@@ -307,8 +307,8 @@ fn argument_problem<'a>(
     None
 }
 
-/// The problem with a word of a line that must have this shape. A name in place of a number, or an unknown one in place
-/// of a ticket, tells that the arguments may be in a wrong order.
+/// The problem with a word of a line that must have this shape. A name in place of a number, or an unknown name in
+/// place of a ticket, suggests that the arguments are in a wrong order.
 fn in_line<'a>(problem: Problem<'a>, shape: Shape<'a>) -> Problem<'a> {
     match problem {
         Problem::Number(NumberProblem::NoNumber(numeral))
@@ -368,7 +368,7 @@ fn too_many<'a>(refused: &Refused<'a>, word: &str, refusal: InputRefusal) -> Pro
     Problem::Limit(LimitProblem::TooMany { what, most })
 }
 
-/// Whether the line names a ticket, and as many have names as can.
+/// Whether the line names a ticket, and no more tickets can have names.
 fn lacks_room_for_name(refused: &Refused<'_>) -> bool {
     Named::Ticket.given_by(refused.line).is_some()
         && name_numbered(refused.before, Named::Ticket, 4096).is_some()

@@ -4,7 +4,7 @@ use crate::lines::{Keyword, text_of};
 use lot_simulation::{Format, HEADER_WORDS, HeaderWord};
 use std::fmt;
 
-/// The words that begin the lines of a header in inputs of this format, in the order of their lines.
+/// The words that begin the header lines of this format, in the order of the lines.
 #[derive(Clone, Copy, Debug)]
 pub(crate) struct HeaderLines(pub(crate) Format);
 
@@ -26,10 +26,10 @@ impl fmt::Display for HeaderLines {
     }
 }
 
-/// The number of places of lines in a header.
+/// The number of places of header lines.
 const PLACES: u32 = HEADER_WORDS.len() as u32;
 
-/// The place of the last line that a header has in inputs of this format.
+/// The place of the last header line that this format has.
 fn last_place(format: Format) -> u32 {
     let mut last = 0;
     for (spelling, word, _) in HeaderWord::rows() {
@@ -40,7 +40,7 @@ fn last_place(format: Format) -> u32 {
     last
 }
 
-/// The spelling of the word whose line has this place in a header, if inputs of this format have such a line.
+/// The spelling of the word whose header line has this place, if this format has such a line.
 fn spelling_at(format: Format, place: u32) -> Option<&'static str> {
     for (spelling, word, _) in HeaderWord::rows() {
         if word.place() == place && HeaderWord::is_read(format, *spelling) {

@@ -1,14 +1,14 @@
-//! What may have been meant by a word that is none.
+//! Suggestions in place of an unknown word.
 
 use crate::lines::{Keyword, Nearest, text_of};
 use lot_simulation::{BodyWord, Format, RUNS_WORD, SCHEDULE_WORD, ScriptWord};
 use std::fmt;
 
-/// What may have been meant by a word that is none: the word nearest to it, or one of all.
+/// A suggestion in place of an unknown word: the nearest word, or a list of all.
 #[derive(Clone, Copy, Debug)]
 pub(crate) struct Hint<'a> {
     pub(crate) nearest: Nearest<'a>,
-    /// All words that may stand there, to be told if none is near.
+    /// All words that may stand there, listed if none is near.
     pub(crate) words: Words,
 }
 
@@ -27,7 +27,7 @@ impl fmt::Display for Hint<'_> {
 pub(crate) enum Words {
     OfBody(Format),
     OfScript(Format),
-    /// None is to be told.
+    /// No list.
     Untold,
 }
 
@@ -63,8 +63,8 @@ fn write_words<K: Keyword, W: fmt::Write>(
     Ok(())
 }
 
-/// Whether inputs of this format have a word of this kind with this spelling, and no line of a schedule that they don't
-/// have begins with it.
+/// Whether to list the word of this kind with this spelling: inputs of this format have it, and it doesn't begin a
+/// schedule line that they lack.
 fn is_told<K: Keyword>(format: Format, spelling: &[u8]) -> bool {
     let is_refused = match format {
         Format::V1 => spelling == RUNS_WORD,

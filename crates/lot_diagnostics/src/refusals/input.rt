@@ -8,19 +8,19 @@ use lot_simulation::{BodyWord, Format, HeaderWord, Separators};
 /// The refused line, and the content of the lines before it.
 #[derive(Clone, Copy)]
 pub(crate) struct Refused<'a> {
-    /// The lines before it.
+    /// The lines before the refused one.
     pub(crate) before: &'a [u8],
-    /// The line itself, without the byte that ends it.
+    /// The line, without the byte that ends it.
     pub(crate) line: &'a [u8],
-    /// The number of bytes up to its end, with the byte that ends it.
+    /// The number of bytes of the input up to the line's end, the byte that ends it included.
     pub(crate) end: usize,
     /// Whether one of the lines before it isn't ignored.
     pub(crate) has_start: bool,
-    /// The format given by the first of these lines.
+    /// The format, given by the first of these lines.
     pub(crate) format: Option<Format>,
-    /// Whether one of the lines before it is of the body.
+    /// Whether one of the lines before it is in the body.
     pub(crate) in_body: bool,
-    /// The last time given.
+    /// The last time given by an `at` line.
     pub(crate) now: u32,
     pub(crate) processors: u32,
     pub(crate) script: Option<OpenScript>,
@@ -57,7 +57,7 @@ impl<'a> Refused<'a> {
         refused
     }
 
-    /// The bytes that separate tokens in the line. A refused first line has spaces alone.
+    /// The bytes that separate tokens in the line. A refused first line has only spaces.
     pub(crate) fn separators(&self) -> Separators {
         match self.format {
             Some(format) => format.separators(),

@@ -28,7 +28,6 @@ impl<'a> Numeral<'a> {
         }
     }
 
-    /// The word.
     pub(crate) fn word(&self) -> &'a str
         ensures { result ≡ self.now.word }
     {
@@ -36,7 +35,7 @@ impl<'a> Numeral<'a> {
     }
 }
 
-/// What numbers are made of, if the word has digits and something else.
+/// A note on the characters of numbers, for a word of digits and others.
 #[derive(Clone, Copy, Debug)]
 struct Note(bool);
 
@@ -50,12 +49,12 @@ impl fmt::Display for Note {
     }
 }
 
-/// Whether the word is a number: digits, without a 0 before others.
+/// Whether the word is a number: digits, without a leading 0.
 fn is_plain(word: &str) -> bool {
     word.bytes().all(|byte| byte.is_ascii_digit()) && (word.len() == 1 || !word.starts_with('0'))
 }
 
-/// The word as a number of at most 64 bits.
+/// The word as a 64-bit number.
 pub(crate) fn number_of(word: &str) -> Option<u64> {
     if is_plain(word) {
         word.parse::<u64>().ok()

@@ -55,7 +55,7 @@ impl<'a> Before<'a> {
             return Some(Problem::Keyword(problem));
         };
         self.script = script.after(keyword);
-        if !form.arguments().is_empty() {
+        if form.len() > 0 {
             self.unfinished = Some(Shape { word, form });
         }
         loop_problem(script, keyword)
@@ -63,7 +63,7 @@ impl<'a> Before<'a> {
 }
 
 /// The problem with a word that must be the argument of the one before it, which has this shape. A word of a script in
-/// its place tells that the argument is missing.
+/// its place means that the argument is missing.
 fn argument_problem<'a>(
     alloc: Global,
     refused: &Refused<'a>,

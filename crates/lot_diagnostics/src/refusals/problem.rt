@@ -128,7 +128,7 @@ pub(crate) enum FormProblem<'a> {
 /// The problem with a word that must be a number.
 #[derive(Clone, Copy, Debug, Error)]
 pub(crate) enum NumberProblem<'a> {
-    /// It is none, where only the kernel or the number of processors limits numbers.
+    /// The word is no number, where only the kernel or the number of processors limits numbers.
     #[error(transparent)]
     NoNumber(Numeral<'a>),
     #[error("'{name}' is no number; this line is written '{shape}'")]
@@ -184,7 +184,7 @@ pub(crate) enum LimitProblem {
     TooMany { what: &'static str, most: u32 },
 }
 
-/// A number of words that a line has, with its verb.
+/// A number of words in a line, with its verb.
 #[derive(Clone, Copy, Debug)]
 pub(crate) struct WordCount(pub(crate) usize);
 

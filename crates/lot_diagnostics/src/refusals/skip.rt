@@ -1,4 +1,4 @@
-//! Whether a refused line can be skipped, since its fault has no consequences for other lines.
+//! Whether a caller can skip a refused line, since its fault has no consequences for other lines.
 ghost use Rattle.std.specs.Prelude.{◌≡◌, IsFalse};
 
 use crate::lines::{
@@ -7,11 +7,12 @@ use crate::lines::{
 };
 use crate::refusals::input::Refused;
 use crate::refusals::problem::{ByteProblem, KeywordProblem, Problem};
+use lot_machine::form_of;
 use lot_simulation::{AS_WORD, BodyWord, Form, HeaderWord, ScriptWord};
 use std::alloc::Global;
 use std::str;
 
-/// Whether the refused line can be skipped, if this is the problem with it.
+/// Whether a caller can skip the refused line, given its problem.
 pub(crate) fn can_be_skipped(alloc: Global, refused: &Refused<'_>, problem: Problem<'_>) -> bool
     ensures start { IsFalse refused.entry.now.has_start → IsFalse result }
     ensures long { (len : _) → problem.entry ≡ Problem.Byte (ByteProblem.LongLine len) → IsFalse result }
@@ -19,7 +20,7 @@ pub(crate) fn can_be_skipped(alloc: Global, refused: &Refused<'_>, problem: Prob
     ensures limit { (it : _) → problem.entry ≡ Problem.Limit it → IsFalse result }
     ensures unclosed { problem.entry ≡ Problem.Unclosed → IsFalse result }
 {
-    // The words of a line that isn't text are unknown.
+    // The words of a line that isn't UTF-8 are unknown.
     let is_text = str::from_utf8(refused.line).is_ok();
     if !refused.has_start || !is_text || !is_of_one_line(problem) {
         return false;
@@ -46,7 +47,7 @@ fn is_of_one_line(problem: Problem<'_>) -> bool
     }
 }
 
-/// Whether a line outside scripts can be skipped, by its first word.
+/// Whether a caller can skip a line outside scripts, by its first word.
 fn can_skip_body_line(alloc: Global, refused: &Refused<'_>) -> bool {
     let word = first_word(refused.line);
     let is_timed = refused.is_timed();
@@ -64,7 +65,7 @@ fn can_skip_body_line(alloc: Global, refused: &Refused<'_>) -> bool {
     }
 }
 
-/// Whether a line inside a script can be skipped, by its words up to a comment.
+/// Whether a caller can skip a line inside a script, by its words up to a comment.
 fn can_skip_steps(alloc: Global, refused: &Refused<'_>) -> bool {
     let mut is_argument = false;
     for word in words_of(refused.line) {
@@ -86,8 +87,8 @@ fn can_skip_steps(alloc: Global, refused: &Refused<'_>) -> bool {
     true
 }
 
-/// Whether an argument follows this word of a script, or the one meant by it. None if the line can't be skipped because
-/// of the word, or if out of memory.
+/// Whether this word of a script, or the word that it misspells, takes an argument. `None` if the word prevents
+/// skipping the line, or if out of memory.
 fn has_argument(alloc: Global, is_timed: bool, word: &str) -> Option<bool> {
     let nearest = nearest_word(alloc, ScriptWord::rows(), is_timed, word);
     let nearest = nearer_word(alloc, nearest, BodyWord::rows(), is_timed, word);
@@ -97,19 +98,18 @@ fn has_argument(alloc: Global, is_timed: bool, word: &str) -> Option<bool> {
     }
 }
 
-/// Whether the line, which is meant to begin with this word, may give a name to a ticket. Lines after it may have the
-/// name.
+/// Whether the line, meant to begin with this word, may name a ticket. Lines after it may use the name.
 fn may_name_ticket(refused: &Refused<'_>, meant: &str) -> bool {
-    let Some(Form::Naming(arguments)) = form_outside(meant) else {
+    let Some(Form::Naming(verb)) = form_outside(meant) else {
         return false;
     };
     let has_as = words_of(refused.line).any(|word| word.as_bytes() == AS_WORD);
-    let is_longer = count_words(refused.line) > arguments.len().saturating_add(1);
+    let is_longer = count_words(refused.line) > form_of(verb).len().saturating_add(1);
     refused.is_timed() && (has_as || is_longer)
 }
 
-/// Whether each byte of the word may stand in an input. Otherwise the word may be several, with a space between them
-/// that isn't ASCII.
+/// Whether an input may have each byte of the word. Otherwise it may be several words, separated by a space that isn't
+/// ASCII.
 fn is_plain(word: &str) -> bool {
     word.bytes().all(|byte| byte.is_ascii_graphic())
 }
@@ -117,12 +117,12 @@ fn is_plain(word: &str) -> bool {
 /// Whether this word of a script takes an argument.
 fn takes_argument(word: &str) -> bool {
     match row_of::<ScriptWord>(word) {
-        Some((_, _, form)) => !form.arguments().is_empty(),
+        Some((_, _, form)) => form.len() > 0,
         None => false,
     }
 }
 
-/// Whether other lines depend on one with this word, which opens or closes a script or a loop, or declares a name.
+/// Whether other lines depend on one with this word, since it opens or closes a script or a loop, or declares a name.
 fn others_depend_on(word: &str) -> bool {
     match row_of::<ScriptWord>(word) {
         Some((_, ScriptWord::Loop | ScriptWord::End | ScriptWord::EndScript, _)) => true,

@@ -4,7 +4,7 @@ use crate::lines::{Named, is_given, nearest_name};
 use crate::refusals::input::Refused;
 use crate::refusals::number::{Numeral, number_of};
 use crate::refusals::problem::{NameProblem, NumberProblem, Problem};
-use lot_machine::is_good_name;
+use lot_machine::{Slot, is_good_name};
 use lot_simulation::{Argument, COMPENSATION_WORD, LENDING_WORD, Range, ranges};
 use std::alloc::Global;
 
@@ -22,10 +22,8 @@ pub(crate) fn word_problem<'a>(
     argument: Argument,
 ) -> Option<Problem<'a>> {
     match argument {
-        Argument::AnyNumber => number_problem(word, AMOUNTS),
+        Argument::OfCommand(slot) => command_problem(alloc, refused, word, slot),
         Argument::Number(range) => range_problem(word, range),
-        Argument::AnyName => long_name(word),
-        Argument::Ticket => ticket_problem(alloc, refused, word),
         Argument::NewName(keyword) => new_problem(refused, word, Named::ByWord(keyword)),
         Argument::KnownName(keyword) => {
             known_problem(alloc, refused, word, Named::ByWord(keyword))
@@ -34,6 +32,20 @@ pub(crate) fn word_problem<'a>(
         Argument::Time(range) => range_problem(word, range).or(early_problem(refused, word)),
         Argument::Mechanism => mechanism_problem(word),
         Argument::Version => None,
+    }
+}
+
+/// The problem with a word that must be this argument of a command.
+fn command_problem<'a>(
+    alloc: Global,
+    refused: &Refused<'a>,
+    word: &'a str,
+    slot: Slot,
+) -> Option<Problem<'a>> {
+    match slot {
+        Slot::Amount => number_problem(word, AMOUNTS),
+        Slot::Ticket => ticket_problem(alloc, refused, word),
+        Slot::Currency | Slot::Target | Slot::Thread | Slot::Name | Slot::Script => long_name(word),
     }
 }
 
@@ -53,7 +65,7 @@ fn range_problem(word: &str, range: Range) -> Option<Problem<'_>> {
     }
 }
 
-/// The problem with a time that is earlier than that of an earlier line.
+/// The problem with a time earlier than that of an earlier line.
 fn early_problem<'a>(refused: &Refused<'a>, word: &'a str) -> Option<Problem<'a>> {
     let before = refused.now;
     if number_of(word)? < u64::from(before) {

@@ -77,8 +77,8 @@ impl Tables {
         self.threads.graph().owner(mutex)
     }
 
-    /// Before a running thread locks a mutex: leaves each port without a server from whose server lends lead to the
-    /// thread, if the thread's wait would close a cycle of lends. Unless queued calls lend, nothing changes.
+    /// Prepares the lock of a running thread: if its wait would close a cycle of lends, each port from whose server
+    /// lends lead to the thread loses that server. It does nothing without `queued_lend`.
     pub(super) fn cut_before_lock(&mut self, thread: ThreadNumber, mutex: MutexNumber)
         requires order { IsInOrder self.old.state }
         requires runs { IsRunning self.old.state.records thread.number }
@@ -100,7 +100,7 @@ impl Tables {
         }
     }
 
-    /// Leaves each port without a server from whose server lends lead to the thread.
+    /// Clears the server of each port from whose server lends lead to the thread.
     fn cut_servers(&mut self, thread: ThreadNumber)
         requires thread { IsThere self.old.state.records thread.number }
         requires no_cycle { HasNoCycle (funding_of self.old.state) }
@@ -122,8 +122,8 @@ impl Tables {
     }
 }
 
-/// Frees each mutex after the first ones whose owner's lends lead to the thread, in the queues alone. The threads keep
-/// the owners, since one that goes may be a link of a chain from another.
+/// Frees, in the queues alone, each holder above number `first` from whose owner lends lead to the thread. `threads`
+/// keeps the owners meanwhile: each may be a link in the chain of another.
 fn free_leading(threads: &mut Threads, queues: &mut Queues, first: u32, thread: ThreadNumber)
     requires thread { IsThreadOf threads.old thread.number }
     requires few { length threads.old.records ≤ threads.old.thread_limit }
@@ -143,7 +143,7 @@ fn free_leading(threads: &mut Threads, queues: &mut Queues, first: u32, thread: 
     }
 }
 
-/// Frees each mutex that is free in the queues; any other has the same owner there.
+/// Frees in `threads` each mutex that is free in the queues. Any other has the same owner in both.
 fn follow_owners(threads: &mut Threads, queues: &Queues)
     requires count { length threads.old.owners ≡ length queues.now.mutexes }
     requires left { (m : ℕ) → (mutex_at queues.now.mutexes m).owner ≢ None

@@ -51,7 +51,7 @@ impl Tables {
         };
     }
 
-    /// Makes a trap on a processor, after these ticks of work.
+    /// Makes a trap on a processor, after `ran` ticks of work.
     pub(super) fn trap(
         &mut self,
         processor: Processor,

@@ -23,7 +23,7 @@ impl Tables {
     }
 
     /// The number of the thread that the reference means, if it exists, even a dead one.
-    pub(crate) fn thread_meant(&self, thread: &ThreadRef) -> Option<u32>
+    pub(super) fn thread_meant(&self, thread: &ThreadRef) -> Option<u32>
         ensures { result ≡ names.thread_meant self.now.state thread.now }
     {
         match thread {

@@ -22,8 +22,8 @@ use lot_threads::Threads;
 use lot_value::GraphChange;
 
 impl Tables {
-    /// Notes the port's server after this outcome of a thread's trap there: the thread that took the call. A queued
-    /// call takes the server away if it would lend to its own caller. Unless queued calls lend, nothing changes.
+    /// Records the port's server after a thread's trap there with this outcome: the thread that took the call. A port
+    /// loses its server if a queued call would lend to its own caller. It does nothing without `queued_lend`.
     #[inline(always)]
     pub(super) fn note_server(&mut self, thread: ThreadNumber, port: PortNumber, outcome: Outcome)
         requires port { IsThere self.old.state.ports port.number }
@@ -43,7 +43,7 @@ impl Tables {
         self.move_server(thread, port, outcome);
     }
 
-    /// Notes the port's server if queued calls lend.
+    /// Records the port's server, with `queued_lend`.
     fn move_server(&mut self, thread: ThreadNumber, port: PortNumber, outcome: Outcome)
         requires lends { self.old.state.limits.queued_lend ≡ true }
         requires port { IsThere self.old.state.ports port.number }
@@ -73,7 +73,7 @@ impl Tables {
         }
     }
 
-    /// Leaves each port that the thread serves without a server. Unless queued calls lend, nothing changes.
+    /// Clears the server of each port that the thread serves. It does nothing without `queued_lend`.
     pub(super) fn leave_ports(&mut self, thread: ThreadNumber)
         ensures state { self.new.state ≡ record self.old.state { mutexes = left_by self.old.state thread.number } }
         ensures stale { MakesStale self.old self.new }
@@ -85,7 +85,7 @@ impl Tables {
         }
     }
 
-    /// Leaves the port with this holder without a server, if the thread is its server.
+    /// Clears the server of the port with this holder, if the thread is its server.
     fn leave_port(&mut self, holder: u32, thread: ThreadNumber)
         requires holder { self.old.state.limits.mutexes < holder }
         requires there { IsThere self.old.state.mutexes holder }
@@ -101,7 +101,7 @@ impl Tables {
         }
     }
 
-    /// Makes a live thread the server of the port with this holder, or leaves the port without one.
+    /// Sets the server of the port with this holder to a live thread, or clears it.
     fn set_server(&mut self, holder: u32, server: Option<u32>)
         requires holder { self.old.state.limits.mutexes < holder }
         requires there { IsThere self.old.state.mutexes holder }
@@ -121,7 +121,7 @@ impl Tables {
     }
 }
 
-/// Makes a live thread the owner of a mutex in place of another thread or of nobody, or frees the mutex.
+/// Sets the owner of a mutex to a live thread, or frees the mutex.
 fn replace_owner(threads: &mut Threads, mutex: u32, owner: Option<u32>)
     requires mutex { IsMutex (funding_in threads.old) mutex }
     requires other { owner_of (funding_in threads.old) mutex ≢ owner }

@@ -34,7 +34,7 @@ impl Tables {
         self.stop(runner.thread, ticks, None, reply);
     }
 
-    /// Preempts a processor's thread after these further ticks, which fit its quantum.
+    /// Preempts a processor's thread after `ticks` further ticks, which fit its quantum.
     pub(super) fn preempt(&mut self, processor: Processor, ticks: u32, reply: &mut Reply)
         ensures reply { reply.new ≡ (step self.old.state (event.Preempt processor.number ticks)).reply }
         ensures state { self.new.state ≡ (step self.old.state (event.Preempt processor.number ticks)).state }
@@ -57,7 +57,7 @@ impl Tables {
         self.stop(runner.thread, ticks, None, reply);
     }
 
-    /// Ends the quantum on a processor this many ticks late: the thread is compensated for the ticks used.
+    /// Ends the quantum on a processor `late` ticks late. The thread's compensation is the ticks used.
     pub(super) fn overrun(&mut self, processor: Processor, late: u32, reply: &mut Reply)
         ensures reply { reply.new ≡ (step self.old.state (event.Overrun processor.number late)).reply }
         ensures state { self.new.state ≡ (step self.old.state (event.Overrun processor.number late)).state }
@@ -81,7 +81,7 @@ impl Tables {
         self.stop(runner.thread, used - runner.used, compensation, reply);
     }
 
-    /// Makes a running thread Ready with this compensation, after these further ticks.
+    /// Makes a running thread Ready with this compensation, after `ticks` further ticks.
     #[inline(always)]
     fn stop(
         &mut self,
@@ -105,8 +105,8 @@ impl Tables {
         };
     }
 
-    /// Ends a thread in any status, and the waits of its clients and of those that have waited longest for its
-    /// mutexes, one after another.
+    /// Ends a thread in any status. Its clients' waits end, and each of its mutexes passes to the thread that has
+    /// waited longest.
     pub(super) fn end(&mut self, thread: ThreadNumber)
         requires order { IsInOrder self.old.state }
         requires there { (0 < thread.number) × (thread.number ≤ length self.old.state.threads) }

@@ -1,7 +1,7 @@
 //! The effects of traps: yields, calls, receives, replies, serves, locks, unlocks, sleeps and exits (3.4, 4.5, 4.6,
 //! 6.1).
 ghost use Rattle.std.specs.Prelude.{◌≡◌, ◌≤◌, is_none, not, true};
-ghost use Rattle.lot_machine.specs.declared.action.Action.TheVariants as action;
+ghost use Rattle.lot_machine.specs.declared.trap.Trap.TheVariants as action;
 ghost use Rattle.lot_machine.specs.declared.after.After.TheVariants.{GoesOn};
 ghost use Rattle.lot_machine.specs.declared.reply.Outcome.TheVariants.{Refused};
 ghost use Rattle.lot_machine.specs.Numbered.{at_number};
@@ -40,7 +40,7 @@ impl Tables {
             Action::Serve(port, sent) => self.serve(thread, PortNumber { number: port }, sent),
             Action::Lock(mutex) => self.lock(thread, MutexNumber { number: mutex }),
             Action::Unlock(mutex, d) => self.unlock(thread, MutexNumber { number: mutex }, d),
-            Action::Sleep => TrapEffect {
+            Action::Sleep(_) => TrapEffect {
                 outcome: Outcome::Slept,
                 after: After::Leaves(Status::Asleep),
             },

@@ -1,7 +1,7 @@
 //! Tickets that get another amount: inflation and deflation.
 use super::*;
 
-/// The amount is checked before the number, of which no part is left out, and a refused command changes nothing.
+/// The kernel checks the amount, all 64 bits of it, before the number. A refused command changes nothing.
 const REFUSED_AMOUNTS: &[Step<'static>] = &[
     Step::Gives(Line::Settkt(1, 0), Reply::Refused(Refusal::BadAmount)),
     Step::Gives(
@@ -59,7 +59,7 @@ static EVEN_REPLIES: [Reply; 2] = [
     },
 ];
 
-/// Thread `a` gets 300, and `b` gets 4 while it runs. Both count at once, and each ticket still funds what it did.
+/// Thread `a` gets 300, and `b` gets 4 while it runs. Both count at once, and each ticket keeps its target.
 const INFLATION: &[Step<'static>] = &[
     Step::Gives(Line::Settkt(1, 300), Reply::Done),
     Step::Wins(1, 300, (2, 300, 400), None),
@@ -80,8 +80,8 @@ fn inflation(rt: HostRuntime) {
     take_all(&rt, &mut kernel, INFLATION)
 }
 
-/// Thread `b` yields after one tick of 100, so that it weighs 100 times what it is worth until it next wins: also with
-/// another amount.
+/// Thread `b` yields after one tick of 100, so it weighs 100 times its value until it next wins, with another amount
+/// too.
 const COMPENSATED: &[Step<'static>] = &[
     Step::Wins(1, 199, (2, 199, 200), None),
     Step::Traps(1, Action::Yield, 2, Outcome::Yielded),
@@ -98,8 +98,8 @@ fn compensation_stays(rt: HostRuntime) {
 }
 
 /// Currency `g` is worth 100: thread `b` has half of it, and thread `a` the other half, through `h`. A larger amount
-/// for `b` leaves less of `g` to `a`, and where `g` is worth less, both are. A ticket that funds nothing changes no
-/// value.
+/// for `b` leaves less of `g` to `a`, and with a smaller value of `g` both are worth less. A ticket that funds nothing
+/// changes no value.
 const DILUTION: &[Step<'static>] = &[
     Step::Gives(Line::Settkt(4, 3), Reply::Done),
     Step::Value(1, 25),

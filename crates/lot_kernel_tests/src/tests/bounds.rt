@@ -94,7 +94,7 @@ static PAST_A_BOUND: [Sizes; 17] = [
     Sizes { unit: 257, ..MOST },
 ];
 
-/// Compares whether limits may be of these sizes.
+/// Compares whether limits may have these sizes.
 fn check_sizes(rt: &impl Abort, sizes: Sizes, may_be: bool) {
     check_same_at(rt, &sizes, &Limits::new(sizes).is_some(), &may_be);
 }

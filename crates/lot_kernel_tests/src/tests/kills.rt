@@ -1,12 +1,12 @@
 //! Threads that are killed, in each status.
 use super::*;
 
-/// Thread `a` runs and owns a mutex when it is killed: its processor is idle then, its ticket is inactive, and the
-/// mutex is free. What it ran before its last trap counts. It can be removed like any other dead thread.
+/// Thread `a` is killed while it runs and owns a mutex: its processor is idle afterwards, its ticket inactive, and the
+/// mutex free. The ticks up to its last trap count. It can be removed like any other dead thread.
 const RUNNING: &[Step<'static>] = &[
     Step::Wins(1, 0, (1, 0, 500), None),
     Step::Works(1, 29, Action::Lock(1), 1, Outcome::Locked),
-    Step::Gives(Line::Kill("a"), Reply::Done),
+    Step::Gives(Line::Kill("a"), Reply::Killed(1)),
     Step::Pauses(Pause::Preempt(1, 0), Reply::Refused(Refusal::NotRunning)),
     Step::Thread((1, "a", Status::Dead, 0, 0, 1, 30)),
     Step::Ticket((1, 400, "base", "a", Target::Thread(1), false, 0)),
@@ -27,7 +27,7 @@ const RUNNING: &[Step<'static>] = &[
 const ELSEWHERE: &[Step<'static>] = &[
     Step::Wins(1, 0, (1, 0, 500), None),
     Step::Wins(2, 0, (2, 0, 100), None),
-    Step::Gives(Line::Kill("a"), Reply::Done),
+    Step::Gives(Line::Kill("a"), Reply::Killed(1)),
     Step::Traps(2, Action::Lock(2), 2, Outcome::Locked),
     Step::Pauses(
         Pause::Preempt(2, 49),
@@ -40,11 +40,11 @@ const ELSEWHERE: &[Step<'static>] = &[
     Step::Wins(1, 199, (2, 99, 100), None),
 ];
 
-/// A Ready thread that is killed competes no more.
+/// A killed Ready thread competes in no draw.
 const READY: &[Step<'static>] = &[
-    Step::Gives(Line::Kill("a"), Reply::Done),
+    Step::Gives(Line::Kill("a"), Reply::Killed(1)),
     Step::Wins(1, 400, (2, 0, 100), None),
-    Step::Gives(Line::Kill("b"), Reply::Done),
+    Step::Gives(Line::Kill("b"), Reply::Killed(2)),
     Step::Idles(1, 0),
 ];
 
@@ -57,7 +57,7 @@ fn kills_of_runners(rt: HostRuntime) {
     play_funded(&rt, alloc, threads, READY)
 }
 
-/// A killed thread's ticket is inactive, so the other thread of its currency is worth all of it.
+/// A killed thread's ticket is inactive, so the other thread gets the whole value of their currency.
 const SHARED: &[Step<'static>] = &[
     Step::Gives(Line::Mkcur("g"), Reply::Currency(1)),
     Step::Gives(Line::Mktkt(100, "base"), Reply::Ticket(1)),
@@ -77,7 +77,7 @@ const SHARED: &[Step<'static>] = &[
         },
     ),
     Step::Value(1, 50),
-    Step::Gives(Line::Kill("a"), Reply::Done),
+    Step::Gives(Line::Kill("a"), Reply::Killed(1)),
     Step::Ticket((2, 1, "g", "a", Target::Thread(1), false, 0)),
     Step::Currency((1, "g", 1, 2, 1, 100)),
     Step::Thread((2, "b", Status::Ready, 100, 100, 0, 0)),
@@ -97,7 +97,7 @@ const SERVER: &[Step<'static>] = &[
     Step::Traps(1, Action::Call(1, 5), 2, Outcome::ServedBy(1)),
     Step::Wins(1, 3029, (3, 3029, 3030), None),
     Step::Traps(1, Action::Call(1, 6), 3, Outcome::Queued),
-    Step::Gives(Line::Kill("s"), Reply::Done),
+    Step::Gives(Line::Kill("s"), Reply::Killed(1)),
     Step::Thread((1, "s", Status::Dead, 0, 0, 1, 1)),
     Step::Thread((2, "c", Status::Ready, 20, 2000, 1, 1)),
     Step::Thread((3, "d", Status::Queued(1), 0, 0, 1, 1)),
@@ -120,7 +120,7 @@ const CLIENT: &[Step<'static>] = &[
     Step::Wins(1, 0, (2, 0, 50), None),
     Step::Traps(1, Action::Call(1, 5), 2, Outcome::ServedBy(1)),
     Step::Value(1, 30),
-    Step::Gives(Line::Kill("c"), Reply::Done),
+    Step::Gives(Line::Kill("c"), Reply::Killed(2)),
     Step::Wins(1, 999, (1, 999, 1030), Some(5)),
     Step::Traps(
         1,
@@ -144,7 +144,7 @@ const CALLER: &[Step<'static>] = &[
     Step::Traps(1, Action::Call(1, 7), 1, Outcome::Queued),
     Step::Wins(1, 0, (2, 0, 50), None),
     Step::Traps(1, Action::Call(1, 8), 2, Outcome::Queued),
-    Step::Gives(Line::Kill("a"), Reply::Done),
+    Step::Gives(Line::Kill("a"), Reply::Killed(1)),
     Step::Wins(1, 0, (3, 0, 30), None),
     Step::Traps(
         1,
@@ -164,7 +164,7 @@ const RECEIVER: &[Step<'static>] = &[
     Step::Traps(1, Action::Receive(1), 1, Outcome::Waits),
     Step::Wins(1, 0, (2, 0, 50), None),
     Step::Traps(1, Action::Receive(1), 2, Outcome::Waits),
-    Step::Gives(Line::Kill("a"), Reply::Done),
+    Step::Gives(Line::Kill("a"), Reply::Killed(1)),
     Step::Wins(1, 0, (3, 0, 30), None),
     Step::Traps(1, Action::Call(1, 5), 3, Outcome::ServedBy(2)),
     Step::Wins(1, 4999, (2, 4999, 5000), Some(5)),
@@ -191,7 +191,7 @@ const ONE_MUTEX: &[Step<'static>] = &[
 
 /// The owner is killed: `w` has waited longest, so it owns the mutex, and `x` lends to it.
 const OWNER: &[Step<'static>] = &[
-    Step::Gives(Line::Kill("o"), Reply::Done),
+    Step::Gives(Line::Kill("o"), Reply::Killed(1)),
     Step::Thread((1, "o", Status::Dead, 0, 0, 1, 1)),
     Step::Thread((2, "w", Status::Ready, 50, 5000, 1, 1)),
     Step::Wins(1, 4999, (2, 4999, 5000), None),
@@ -207,9 +207,9 @@ const OWNER: &[Step<'static>] = &[
     Step::Value(3, 30),
 ];
 
-/// A waiter is killed: it lends nothing any more, and isn't in the lottery of the unlock.
+/// A killed waiter lends nothing, and takes no part in the lottery of the unlock.
 const WAITER: &[Step<'static>] = &[
-    Step::Gives(Line::Kill("w"), Reply::Done),
+    Step::Gives(Line::Kill("w"), Reply::Killed(2)),
     Step::Value(1, 40),
     Step::Traps(
         1,
@@ -232,7 +232,7 @@ const TWO_MUTEXES: &[Step<'static>] = &[
     Step::Traps(2, Action::Lock(1), 2, Outcome::Waits),
     Step::Wins(2, 0, (3, 0, 30), None),
     Step::Traps(2, Action::Lock(2), 3, Outcome::Waits),
-    Step::Gives(Line::Kill("o"), Reply::Done),
+    Step::Gives(Line::Kill("o"), Reply::Killed(1)),
     Step::Thread((2, "w", Status::Ready, 20, 2000, 1, 1)),
     Step::Thread((3, "x", Status::Ready, 30, 3000, 1, 1)),
     Step::Wins(1, 1999, (2, 1999, 5000), None),
@@ -251,11 +251,11 @@ fn kills_of_owners_and_waiters(rt: HostRuntime) {
     play_funded(&rt, alloc, threads, TWO_MUTEXES)
 }
 
-/// A sleeper is killed, and isn't woken then.
+/// A sleeper is killed, and can't be woken afterwards.
 const SLEEPER: &[Step<'static>] = &[
     Step::Wins(1, 0, (1, 0, 30), None),
-    Step::Works(1, 19, Action::Sleep, 1, Outcome::Slept),
-    Step::Gives(Line::Kill("a"), Reply::Done),
+    Step::Works(1, 19, Action::Sleep(()), 1, Outcome::Slept),
+    Step::Gives(Line::Kill("a"), Reply::Killed(1)),
     Step::Pauses(Pause::Wake(1), Reply::Refused(Refusal::NotAsleep)),
     Step::Thread((1, "a", Status::Dead, 0, 0, 1, 20)),
     Step::Wins(1, 29, (2, 9, 20), None),
@@ -266,7 +266,7 @@ fn kill_of_a_sleeper(rt: HostRuntime) {
     play_funded(&rt, rt.alloc(), &[(10, "a"), (20, "b")], SLEEPER)
 }
 
-/// A thread has to be there, and alive. Neither base nor another currency is a thread.
+/// A thread to kill must exist and not be dead. Neither base nor another currency is a thread.
 const REFUSED: &[Step<'static>] = &[
     Step::Gives(Line::Kill("a"), Reply::Refused(Refusal::NoThread)),
     Step::Gives(Line::Kill("base"), Reply::Refused(Refusal::NoThread)),
@@ -282,7 +282,7 @@ const REFUSED: &[Step<'static>] = &[
 const NUMBERED: &[Step<'static>] = &[
     Step::Gives(Line::KillThread(0), Reply::Refused(Refusal::NoThread)),
     Step::Gives(Line::KillThread(3), Reply::Refused(Refusal::NoThread)),
-    Step::Gives(Line::KillThread(2), Reply::Done),
+    Step::Gives(Line::KillThread(2), Reply::Killed(2)),
     Step::Gives(Line::KillThread(2), Reply::Refused(Refusal::DeadThread)),
     Step::Gives(
         Line::KillThread(u32::MAX),

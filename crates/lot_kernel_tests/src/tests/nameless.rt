@@ -11,8 +11,8 @@ const EIGHT: Sizes = Sizes {
     ..Sizes::SMALLEST
 };
 
-/// Any number of threads may have no name, and no currency. No command means a thread by a name that it doesn't have:
-/// each means it by its number.
+/// Any number of threads may have no name; a currency must have one. No command can name such a thread: each means it
+/// by its number.
 const NAMELESS: &[Step<'static>] = &[
     Step::Gives(Line::Mkthr("", 1), Reply::Thread(1)),
     Step::Gives(Line::Mkthr("", 1), Reply::Thread(2)),
@@ -45,42 +45,43 @@ fn threads_without_a_name(rt: HostRuntime) {
     play(&rt, rt.alloc(), NAMELESS)
 }
 
-/// Threads without a name are removed from among those whose names have one bucket of eight. These are still found.
+/// Threads without a name are removed from among those whose names share one bucket of eight, which the kernel still
+/// finds.
 const REMOVED: &[Step<'static>] = &[
     Step::Gives(Line::Fundx(1, "base", "a", 1), FIRST_FUNDED),
     Step::Gives(Line::Mkthr("", 1), Reply::Thread(2)),
     Step::Gives(Line::Mkthr("d", 1), Reply::Thread(3)),
     Step::Gives(Line::Mkthr("", 1), Reply::Thread(4)),
     Step::Gives(Line::RemoveThread(2), Reply::Refused(Refusal::Alive)),
-    Step::Gives(Line::KillThread(2), Reply::Done),
+    Step::Gives(Line::KillThread(2), Reply::Killed(2)),
     Step::Gives(Line::RemoveThread(2), Reply::Done),
     Step::NoThread(2),
     Step::Gives(Line::RemoveThread(2), Reply::Refused(Refusal::NoThread)),
     Step::Thread((4, "", Status::Ready, 0, 0, 0, 0)),
     Step::Gives(Line::Mkthr("a", 1), Reply::Refused(Refusal::NameTaken)),
     Step::Gives(Line::Mkthr("d", 1), Reply::Refused(Refusal::NameTaken)),
-    Step::Gives(Line::Kill("d"), Reply::Done),
+    Step::Gives(Line::Kill("d"), Reply::Killed(3)),
     Step::Gives(Line::Rmthr("d"), Reply::Done),
-    Step::Gives(Line::KillThread(4), Reply::Done),
+    Step::Gives(Line::KillThread(4), Reply::Killed(4)),
     Step::Gives(Line::RemoveThread(4), Reply::Done),
     Step::Gives(Line::Mkthr("a", 1), Reply::Refused(Refusal::NameTaken)),
     Step::Gives(Line::Mkthr("d", 1), Reply::Thread(5)),
     Step::Gives(Line::Mkthr("", 1), Reply::Thread(6)),
-    Step::Gives(Line::Kill("a"), Reply::Done),
+    Step::Gives(Line::Kill("a"), Reply::Killed(1)),
 ];
 
-/// The number of a thread without a name is given to one with a name, and back.
+/// A thread with a name gets the number of a thread without one, and the other way round.
 const GIVEN_AGAIN: &[Step<'static>] = &[
     Step::Gives(Line::Fundx(1, "base", "a", 1), FIRST_FUNDED),
     Step::Gives(Line::Mkthr("", 1), Reply::Thread(2)),
     Step::Gives(Line::Unfund(1), Reply::Done),
-    Step::Gives(Line::KillThread(2), Reply::Done),
+    Step::Gives(Line::KillThread(2), Reply::Killed(2)),
     Step::Gives(Line::RemoveThread(2), Reply::Done),
     Step::Gives(Line::Mkthr("d", 1), Reply::Thread(2)),
     Step::Gives(Line::Fund(1, "d"), Reply::Done),
     Step::Ticket((1, 1, "base", "d", Target::Thread(2), true, 1)),
     Step::Gives(Line::Unfund(1), Reply::Done),
-    Step::Gives(Line::Kill("d"), Reply::Done),
+    Step::Gives(Line::Kill("d"), Reply::Killed(2)),
     Step::Gives(Line::Rmthr("d"), Reply::Done),
     Step::Gives(Line::Mkthr("", 1), Reply::Thread(2)),
     Step::Gives(Line::Fund(1, "d"), Reply::Refused(Refusal::NoTarget)),

@@ -1,8 +1,8 @@
-//! Names that are given again, and names that an index keeps together.
+//! Names that are used again, and names in one bucket of the index.
 use super::*;
 
-/// Currencies and threads share one set of names: each may have the name of one that was removed, and none that of one
-/// that is there.
+/// Currencies and threads share one set of names: each may have the name of a removed one, and not that of an existing
+/// one.
 const GIVEN_AGAIN: &[Step<'static>] = &[
     Step::Gives(Line::Mkcur("x"), Reply::Currency(1)),
     Step::Gives(Line::Rmcur("x"), Reply::Done),
@@ -29,7 +29,7 @@ fn names_given_again(rt: HostRuntime) {
     play(&rt, rt.alloc(), GIVEN_AGAIN)
 }
 
-/// Names of currencies that have one bucket of eight, of which the second, the first and the last are removed.
+/// Names of currencies in one bucket of eight, of which the second, the first and the last are removed.
 const CURRENCIES_OF_ONE_BUCKET: &[Step<'static>] = &[
     Step::Gives(Line::Mkcur("a"), Reply::Currency(1)),
     Step::Gives(Line::Mkcur("d"), Reply::Currency(2)),
@@ -50,7 +50,7 @@ const CURRENCIES_OF_ONE_BUCKET: &[Step<'static>] = &[
     Step::Gives(Line::Mktkt(1, "a"), Reply::Ticket(4)),
 ];
 
-/// Names of threads that have one bucket of eight, of which the second is removed and given to a new thread.
+/// Names of threads in one bucket of eight. The second is removed, and a new thread gets its name.
 const THREADS_OF_ONE_BUCKET: &[Step<'static>] = &[
     Step::Gives(Line::Fundx(1, "base", "a", 1), FIRST_FUNDED),
     Step::Gives(Line::Mkthr("d", 1), Reply::Thread(2)),
@@ -106,8 +106,8 @@ const REFUSED: &[Step<'static>] = &[
     Step::Gives(Line::Kill("Job#1"), Reply::Refused(Refusal::NoThread)),
 ];
 
-/// Plain names have any printable ASCII but the space, from `!` to `~`. No two are the same that differ in one letter
-/// alone, which is small in the one and a capital in the other.
+/// Plain names have any printable ASCII but the space, from `!` to `~`. Two names differ even if only one letter does,
+/// small in one and a capital in the other.
 const PLAIN: &[Step<'static>] = &[
     Step::Gives(Line::Mkthr("Job#1", 1), Reply::Thread(1)),
     Step::Gives(Line::Mkcur("~!"), Reply::Currency(1)),
@@ -126,7 +126,7 @@ const PLAIN: &[Step<'static>] = &[
     Step::Ticket((1, 100, "~!", "Job#1", Target::Thread(1), true, 50)),
     Step::Currency((1, "~!", 1, 1, 100, 50)),
     Step::Thread((1, "Job#1", Status::Ready, 50, 50, 0, 0)),
-    Step::Gives(Line::Kill("Job#1"), Reply::Done),
+    Step::Gives(Line::Kill("Job#1"), Reply::Killed(1)),
     Step::Gives(Line::Unfund(1), Reply::Done),
     Step::Gives(Line::Rmthr("Job#1"), Reply::Done),
     Step::Gives(Line::Rmthr("Job#1"), Reply::Refused(Refusal::NoThread)),

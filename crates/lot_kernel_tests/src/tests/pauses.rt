@@ -1,4 +1,4 @@
-//! Threads that sleep and are woken, whose processor is taken from them, and whose quantum ends late.
+//! Threads that sleep and wake, are preempted, and whose quantum ends late.
 use super::*;
 
 /// Thread `a` sleeps, with a fifth of its quantum used: its ticket is inactive until it is woken, and then it weighs
@@ -9,7 +9,7 @@ const SLEEPER: &[Step<'static>] = &[
     Step::Pauses(Pause::Wake(2), Reply::Refused(Refusal::NoThread)),
     Step::Pauses(Pause::Wake(0), Reply::Refused(Refusal::NoThread)),
     Step::Wins(1, 0, (1, 0, 400), None),
-    Step::Works(1, 19, Action::Sleep, 1, Outcome::Slept),
+    Step::Works(1, 19, Action::Sleep(()), 1, Outcome::Slept),
     Step::Thread((1, "a", Status::Asleep, 0, 0, 1, 20)),
     Step::Ticket((1, 400, "base", "a", Target::Thread(1), false, 0)),
     Step::Idles(1, 0),
@@ -24,12 +24,12 @@ fn sleep_and_wake(rt: HostRuntime) {
     play(&rt, rt.alloc(), SLEEPER)
 }
 
-/// Thread `a` sleeps as the owner of a mutex for which `b` waits: neither competes, though `b` lends to `a`. A thread
-/// that waits isn't woken so, nor is a dead one.
+/// Thread `a` sleeps as the owner of a mutex for which `b` waits: neither competes, though `b` lends to `a`. A wake of
+/// a waiting thread is refused, and so is that of a dead one.
 const SLEEPING_OWNER: &[Step<'static>] = &[
     Step::Wins(1, 0, (1, 0, 30), None),
     Step::Traps(1, Action::Lock(1), 1, Outcome::Locked),
-    Step::Works(1, 0, Action::Sleep, 1, Outcome::Slept),
+    Step::Works(1, 0, Action::Sleep(()), 1, Outcome::Slept),
     Step::Wins(1, 19, (2, 19, 20), None),
     Step::Traps(1, Action::Lock(1), 2, Outcome::Waits),
     Step::Idles(1, 0),
@@ -46,7 +46,7 @@ fn sleep_of_an_owner(rt: HostRuntime) {
     play_funded(&rt, rt.alloc(), &[(10, "a"), (20, "b")], SLEEPING_OWNER)
 }
 
-/// A processor is taken from its thread within its quantum: what it has run counts, and it isn't compensated.
+/// A thread is preempted within its quantum: the ticks that it ran count, and it gets no compensation.
 const PREEMPTED: &[Step<'static>] = &[
     Step::Gives(Line::Fundx(400, "base", "a", 1), FIRST_FUNDED),
     Step::Pauses(Pause::Preempt(1, 0), Reply::Refused(Refusal::NotRunning)),
@@ -73,7 +73,7 @@ const PREEMPTED: &[Step<'static>] = &[
     ),
 ];
 
-/// A quantum that ended late: the thread weighs as much less as it has used more, until it next wins.
+/// After a quantum that ended late, the thread weighs less in proportion, until it next wins.
 const LATE: &[Step<'static>] = &[
     Step::Gives(Line::Fundx(400, "base", "a", 1), FIRST_FUNDED),
     Step::Pauses(Pause::Overrun(1, 0), Reply::Refused(Refusal::NotRunning)),
@@ -120,15 +120,15 @@ fn quanta_that_end_early_or_late(rt: HostRuntime) {
     play(&rt, alloc, LATE)
 }
 
-/// In a kernel without compensation thread `a` yields after a fifth of its quantum, sleeps and is woken, and is stopped
-/// late: it always weighs its value.
+/// In a kernel without compensation thread `a` yields after a fifth of its quantum, sleeps and wakes, and its quantum
+/// ends late: it always weighs its value.
 const UNCOMPENSATED: &[Step<'static>] = &[
     Step::Gives(Line::Fundx(400, "base", "a", 1), FIRST_FUNDED),
     Step::Wins(1, 0, (1, 0, 400), None),
     Step::Works(1, 19, Action::Yield, 1, Outcome::Yielded),
     Step::Thread((1, "a", Status::Ready, 400, 400, 1, 20)),
     Step::Wins(1, 399, (1, 399, 400), None),
-    Step::Works(1, 19, Action::Sleep, 1, Outcome::Slept),
+    Step::Works(1, 19, Action::Sleep(()), 1, Outcome::Slept),
     Step::Pauses(Pause::Wake(1), Reply::Done),
     Step::Wins(1, 399, (1, 399, 400), None),
     Step::Pauses(

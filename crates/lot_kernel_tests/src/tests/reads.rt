@@ -5,9 +5,9 @@ use lot_kernel::{Meter, Settled};
 /// A step of a row of counts.
 #[derive(Clone, Copy)]
 enum Count<'a> {
-    /// A command that is done and reads nothing.
+    /// A done command, which reads nothing.
     Does(Line<'a>),
-    /// A command that is refused with this, and reads nothing.
+    /// A refused command, with its refusal, which reads nothing.
     Refuses(Line<'a>, Refusal),
     /// A draw by processor 1 that this thread wins, the number, the total, and the edges that it reads.
     Draws(u128, Winner, u64),
@@ -38,7 +38,7 @@ fn reads_of(step: Count<'_>) -> u64 {
     }
 }
 
-/// Takes a step, and returns whether it comes out as the row says.
+/// Takes a step, and returns whether its result is the row's.
 fn take_step(rt: &impl Abort, kernel: &mut Kernel, step: Count<'_>) -> bool {
     match step {
         Count::Does(line) => is_done(&answer(rt, kernel, line)),
@@ -60,7 +60,7 @@ fn take_step(rt: &impl Abort, kernel: &mut Kernel, step: Count<'_>) -> bool {
     }
 }
 
-/// Whether a command was not refused.
+/// Whether a command was done.
 fn is_done(reply: &Reply) -> bool {
     !matches!(reply, Reply::Refused(_))
 }
@@ -94,7 +94,7 @@ fn outcome_of(reply: Reply) -> Option<Outcome> {
     }
 }
 
-/// Takes the steps in a new kernel of the largest tables, and compares what each reads.
+/// Takes the steps in a new kernel of the largest tables, and compares the reads of each.
 fn count_all(rt: &impl Abort, alloc: Global, steps: &[Count<'_>]) {
     let mut kernel = largest(rt, alloc, 1);
     for step in steps {
@@ -104,8 +104,8 @@ fn count_all(rt: &impl Abort, alloc: Global, steps: &[Count<'_>]) {
     }
 }
 
-// 100 base fund `g`, which three threads share. A second ticket of base makes `g` and the three stale: the two tickets
-// that fund `g` are read, and one for each thread.
+// 100 base fund `g`, which three threads share. A second ticket of base makes `g` and the three stale: the draw reads
+// the two tickets that fund `g`, and one for each thread.
 const SHARED: &[Count<'static>] = &[
     Count::Does(Line::Mkcur("g")),
     Count::Does(Line::Mktkt(100, "base")),
@@ -141,8 +141,8 @@ const UPSTREAM: &[Count<'static>] = &[
 ];
 
 // 100 base fund `g`, which two threads share, and a third thread has base. Another amount of the ticket that funds `g`
-// makes `g` and its two threads stale; another amount of a thread's ticket of `g` makes the two stale, but not `g`; and
-// another amount of the third thread's ticket makes that thread alone stale. Neither a ticket that funds nothing nor a
+// makes `g` and its two threads stale; another amount of a thread's ticket of `g` makes the two stale, but not `g`;
+// another amount of the third thread's ticket makes only that thread stale. Neither a ticket that funds nothing nor a
 // refused command makes anything stale.
 const RESET: &[Count<'static>] = &[
     Count::Does(Line::Mkcur("g")),
@@ -181,7 +181,7 @@ const LISTED: &[Count<'static>] = &[
     Count::Draws(10, (2, 10, 15), 0),
 ];
 
-// An unlock for which nobody waits, and all traps that are refused or aren't unlocks, read nothing.
+// An unlock without waiters, and all traps that are refused or aren't unlocks, read nothing.
 const TRAPPED: &[Count<'static>] = &[
     Count::Does(Line::Fundx(10, "base", "a", 1)),
     Count::Draws(0, (1, 0, 10), 1),
@@ -191,7 +191,7 @@ const TRAPPED: &[Count<'static>] = &[
     Count::Traps(Action::Receive(1), Outcome::Waits, 0),
 ];
 
-// The removal of a dead thread makes nothing stale, and neither does one that is refused.
+// The removal of a dead thread makes nothing stale, and neither does a refused one.
 const REMOVED: &[Count<'static>] = &[
     Count::Does(Line::Fundx(10, "base", "a", 1)),
     Count::Does(Line::Fundx(5, "base", "b", 1)),
@@ -206,8 +206,8 @@ const REMOVED: &[Count<'static>] = &[
     Count::Draws(4, (2, 4, 5), 0),
 ];
 
-// A kill reads nothing, and neither does one that is refused. Once nothing funds the killed thread, its value is found
-// without a read.
+// A kill reads nothing, and neither does a refused one. Once no ticket funds the killed thread, finding its value takes
+// no read.
 const KILLED: &[Count<'static>] = &[
     Count::Does(Line::Fundx(10, "base", "a", 1)),
     Count::Does(Line::Fundx(5, "base", "b", 1)),

@@ -1,8 +1,8 @@
 //! Dead threads that are removed.
 use super::*;
 
-/// A thread has to be there, then dead, and then nothing may refer to it. With it goes its row; its name is free again,
-/// and a new thread of that name has a new number.
+/// A thread to remove must exist, be dead, and have no references, checked in this order. The removal takes its row. A
+/// new thread may have its name, with a new number.
 const FUNDED_REMOVAL: &[Step<'static>] = &[
     Step::Gives(Line::Rmthr("a"), Reply::Refused(Refusal::NoThread)),
     Step::Gives(Line::Rmthr("base"), Reply::Refused(Refusal::NoThread)),
@@ -104,7 +104,7 @@ fn removal_from_the_middle(rt: HostRuntime) {
     play_funded(&rt, rt.alloc(), &[(1, "a"), (2, "b"), (4, "c")], MIDDLE)
 }
 
-/// A removed thread still counts among those made, so that no other comes in its place, though its name is free.
+/// A removed thread still counts towards the limit, so no other gets its place, though its name is free.
 const STILL_FULL: &[Step<'static>] = &[
     Step::Gives(Line::Fundx(1, "base", "a", 1), FIRST_FUNDED),
     Step::Wins(1, 0, (1, 0, 1), None),

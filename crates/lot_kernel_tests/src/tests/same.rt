@@ -1,5 +1,5 @@
-//! Comparisons that all tests share. An `assert_eq!` costs the function that it stands in a second of proof, and more
-//! where much is known; a call of these costs a tenth of that.
+//! Comparisons that all tests share. An `assert_eq!` costs its function a second of proof, or more in a large one; a
+//! call of these costs a tenth of that.
 use std::fmt::Debug;
 use std::process::Abort;
 
@@ -18,7 +18,7 @@ pub(crate) fn check_same_at<T: PartialEq + Debug>(
     assert_eq!(rt; *found, *wanted, "at {at:?}");
 }
 
-/// Ends the test unless a step of a row comes out as it says.
+/// Ends the test unless a step's result is the row's.
 pub(crate) fn check_step(rt: &impl Abort, step: usize, is_so: bool) {
     assert!(rt; is_so, "step {step}");
 }

@@ -1,4 +1,4 @@
-//! One module for each of `lot_threads`, `lot_ports`, `lot_mutex` and `lot_queues`, and what they share.
+//! One module for each of `lot_threads`, `lot_ports`, `lot_mutex` and `lot_queues`, and their helpers.
 
 mod helpers;
 mod mutexes;

@@ -17,7 +17,7 @@ fn run_funded(
     kernel
 }
 
-/// A draw, a yield after this many ticks of work, and the greatest draw of this total, by a thread with this much.
+/// A draw, a yield after this many ticks of work, and the largest draw of this total, by a thread with this much base.
 fn check_compensation(rt: &impl Abort, alloc: Global, (amount, ran, total): (u64, u32, u64)) {
     let yielded = Reply::Trapped {
         thread: 1,
@@ -44,7 +44,7 @@ fn check_compensation(rt: &impl Abort, alloc: Global, (amount, ran, total): (u64
     check_compensated(rt, &mut kernel, amount, u64::from(ran).saturating_add(1))
 }
 
-/// Compares the thread that won a second time, after this many ticks, to what it is to be.
+/// Compares the thread that won a second time, after this many ticks, with the expected row.
 fn check_compensated(rt: &impl Abort, kernel: &mut Kernel, amount: u64, ticks: u64) {
     let runs = Status::Running {
         processor: 1,
@@ -440,7 +440,7 @@ const SERVINGS: &[Step<'static>] = &[
     Step::Wins(2, 0, (3, 0, 3000), Some(9)),
 ];
 
-// A server replies and takes the next call in one trap, or waits for it; with no client it is refused.
+// A server replies and takes the next call in one trap, or waits for it; without a client the trap is refused.
 #[test]
 fn a_server_that_serves(rt: HostRuntime) {
     play_funded(
@@ -650,25 +650,6 @@ fn compensations_of_threads(rt: HostRuntime) {
     check_compensations(&rt, &kernel, threads)
 }
 
-/// Compares the number of the thread that is meant.
-fn check_meant(rt: &impl Abort, kernel: &Kernel, meant: &ThreadRef, number: Option<u32>) {
-    check_same_at(rt, meant, &kernel.thread_meant(meant), &number);
-}
-
-/// Compares the number of the thread that a name means.
-fn check_named(rt: &impl Abort, kernel: &Kernel, text: &str, number: Option<u32>) {
-    check_meant(rt, kernel, &ThreadRef::Named(name(rt, text)), number)
-}
-
-#[test]
-fn threads_meant(rt: HostRuntime) {
-    let kernel = kernel_with_waiters(&rt, rt.alloc());
-    check_named(&rt, &kernel, "b", Some(2));
-    check_named(&rt, &kernel, "base", None);
-    check_meant(&rt, &kernel, &ThreadRef::Numbered(3), Some(3));
-    check_meant(&rt, &kernel, &ThreadRef::Numbered(4), None)
-}
-
 /// In a kernel without lending `l` owns a mutex for which `h` waits, and is drawn on its own funding alone: thread `m`
 /// wins before it. The mutex then passes to `h` without a lottery.
 const INVERTED: &[Step<'static>] = &[
@@ -696,8 +677,8 @@ const INVERTED: &[Step<'static>] = &[
     Step::Value(2, 99),
 ];
 
-/// Without lending two threads that lock each other's mutexes both wait, and a server with clients stays in use when it
-/// has ended and lost its ticket.
+/// Without lending two threads that lock each other's mutexes both wait, and a server with clients stays in use even
+/// after it has ended and lost its ticket.
 const UNLENT: &[Step<'static>] = &[
     Step::Wins(1, 0, (1, 0, 40), None),
     Step::Wins(2, 0, (2, 0, 30), None),
@@ -715,7 +696,7 @@ const UNLENT: &[Step<'static>] = &[
     Step::Gives(Line::Rmthr("c"), Reply::Refused(Refusal::InUse)),
 ];
 
-/// Takes the steps in a new kernel without lending, after it got threads of these names with this much base each.
+/// Takes the steps in a new kernel without lending, with threads of these names and this much base each.
 fn play_unlent(rt: &impl Abort, alloc: Global, threads: &[(u64, &str)], steps: &[Step<'_>]) {
     let sizes = Sizes {
         tickets: 4,

@@ -7,7 +7,7 @@ ghost use Rattle.lot_machine.specs.Facts.{live_value, base_value};
 ghost use Rattle.lot_laws.specs.Conservation.{lost_at, lost_value, rounded_tickets};
 ghost use Rattle.lot_laws.specs.Runs.{nothing_to_share};
 
-/// Where shares are whole, nothing is lost.
+/// Whole shares lose nothing.
 pub fn whole_shares()
     ensures base { base_value (after currency_graph) ≡ 3000 }
     ensures live { live_value (after currency_graph) ≡ 3000 }
@@ -15,8 +15,7 @@ pub fn whole_shares()
         ∷ 4 ∷ 5 ∷ []) ≡ 0 ∷ 0 ∷ 0 ∷ 0 ∷ 0 ∷ [] }
 {}
 
-/// 100 in three shares loses 1, and 1 in two shares loses 1, the most possible. With a larger unit less of the value
-/// is lost.
+/// 100 in three shares loses 1, and 1 in two shares loses 1, the most possible. A larger unit loses less.
 pub fn broken_shares()
     ensures base { base_value (after thirds) ≡ 100 }
     ensures live { live_value (after thirds) ≡ 99 }

@@ -1,7 +1,6 @@
-//! Worked rows for insulation: the values that one currency's inflation changes, and those that it doesn't (3.2,
-//! 3.3).
+//! Worked rows for insulation: the values that one currency's inflation changes, and those that it leaves (3.2, 3.3).
 ghost use Rattle.std.specs.Prelude.{◌≡◌, [], ◌∷◌, ◌++◌, codes};
-ghost use Rattle.lot_machine.specs.declared.action.Action.TheVariants.{Exit};
+ghost use Rattle.lot_machine.specs.declared.trap.Trap.TheVariants.{Exit};
 ghost use Rattle.lot_machine.specs.declared.event.Event.TheVariants.{Draw, Trap};
 ghost use Rattle.lot_machine.specs.declared.funding.Node.TheVariants.{Currency, Thread};
 ghost use Rattle.lot_machine.specs.Worked.{after, values, fundx, settkt};
@@ -35,8 +34,8 @@ pub fn other_currency()
     ensures after { values (after (two_currencies ++ fundx 1 (codes "g") (codes "c") ∷ [])) ≡ 50 ∷ 100 ∷ 50 ∷ [] }
 {}
 
-/// One of the first currency's two threads gets three times the amount, and so takes from the other, which isn't
-/// touched and yet affected. It takes nothing from the second currency's thread, and the whole change is inside the
+/// One of the first currency's two threads gets three times the amount, and so takes from the other, which the change
+/// affects without touching it. It takes nothing from the second currency's thread, and the whole change is inside the
 /// first currency.
 pub fn larger_amount()
     ensures unaffected { ¬ Affects (after three_threads) (after (three_threads ++ settkt 3 3 ∷ [])) (Thread 2) }
@@ -47,8 +46,8 @@ pub fn larger_amount()
     ensures after { values (after (three_threads ++ settkt 3 3 ∷ [])) ≡ 75 ∷ 100 ∷ 25 ∷ [] }
 {}
 
-/// Two tickets of a currency exchange their amounts: its active amount stays, and the threads exchange their values.
-/// So with a constant active amount, a ticket with a new amount is worth what this amount was worth before.
+/// Two tickets of a currency exchange their amounts: its active amount stays, and the threads exchange their values. So
+/// with a constant active amount, a ticket with a new amount is worth as much as this amount was before.
 pub fn exchanged_amounts()
     ensures amount { amount_in (after two_to_one) 1 ≡ 3 }
     ensures amount_stays { amount_in (after (two_to_one ++ settkt 2 1 ∷ settkt 3 2 ∷ [])) 1 ≡ 3 }
@@ -65,8 +64,8 @@ pub fn replaced_thread()
     ensures after { values (after (first_of_three_runs ++ first_replaced)) ≡ 0 ∷ 100 ∷ 50 ∷ 50 ∷ [] }
 {}
 
-/// Two threads share a currency, and one exits. That touches neither the other thread nor an edge to it, but affects
-/// it through the currency: the other is worth more afterwards. So it isn't enough that a node isn't touched.
+/// Two threads share a currency, and one exits. That touches neither the other thread nor an edge to it, but affects it
+/// through the currency: the other is worth more afterwards. So an untouched node isn't enough.
 pub fn untouched_but_affected()
     ensures untouched { ¬ Touches (after (two_to_one ++ Draw 1 0 ∷ [])) (after (two_to_one ++ Draw 1 0
         ∷ Trap 1 0 Exit ∷ [])) (Thread 2) }

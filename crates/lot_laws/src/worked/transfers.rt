@@ -1,6 +1,6 @@
 //! Worked rows for transfers (3.1, 4.6, 6.1).
 ghost use Rattle.std.specs.Prelude.{◌≡◌, [], ◌∷◌, ◌++◌};
-ghost use Rattle.lot_machine.specs.declared.action.Action.TheVariants.{Call, Receive, Reply as ReplyTo, Serve, Lock};
+ghost use Rattle.lot_machine.specs.declared.trap.Trap.TheVariants.{Call, Receive, Reply as ReplyTo, Serve, Lock};
 ghost use Rattle.lot_machine.specs.declared.event.Event.TheVariants.{Trap};
 ghost use Rattle.lot_machine.specs.Worked.{after, values};
 ghost use Rattle.lot_machine.specs.Facts.{live_value};
@@ -18,8 +18,8 @@ pub fn call_taken()
     ensures together { live_value (after (waiting_server ++ Trap 1 0 (Call 1 9) ∷ [])) ≡ 400 }
 {}
 
-/// If the server has a ticket of its own in the client's currency, this ticket is active again once it serves, and
-/// the client's tickets are worth less. So the law requires that the server has nothing.
+/// If the server has a ticket of its own in the client's currency, this ticket is active again once it serves, and the
+/// client's tickets are worth less. So the law requires a server with nothing of its own.
 pub fn server_with_a_ticket()
     ensures takes { TakesCall (after server_with_a_ticket) (Trap 1 0 (Call 1 9)) 2 1 }
     ensures before { values (after server_with_a_ticket) ≡ 0 ∷ 100 ∷ [] }
@@ -60,8 +60,8 @@ pub fn mutex_wait()
     ensures together { live_value (after (owner_runs ++ Trap 2 0 (Lock 1) ∷ [])) ≡ 150 }
 {}
 
-/// If the owner waits for a call, no live thread gets a waiter's value: the waiter is worth nothing. So the law
-/// requires that the owner is backed.
+/// If the owner waits for a call, no live thread gets a waiter's value, and the waiter is worth nothing. So the law
+/// requires a backed owner.
 pub fn owner_not_backed()
     ensures waits { WaitsFor (after owner_receives) (Trap 2 0 (Lock 1)) 2 1 }
     ensures before { values (after owner_receives) ≡ 0 ∷ 100 ∷ [] }

@@ -1,7 +1,7 @@
 //! Worked rows for killed threads.
 ghost use Rattle.std.specs.Prelude.{◌≡◌, [], ◌∷◌, ◌++◌, codes, false, Some, None};
-ghost use Rattle.lot_machine.specs.declared.action.Action.TheVariants.{Call, Receive, Reply as ReplyTo, Lock, Sleep};
-ghost use Rattle.lot_machine.specs.declared.action.Action.TheVariants.{Exit};
+ghost use Rattle.lot_machine.specs.declared.trap.Trap.TheVariants.{Call, Receive, Reply as ReplyTo, Lock, Sleep};
+ghost use Rattle.lot_machine.specs.declared.trap.Trap.TheVariants.{Exit};
 ghost use Rattle.lot_machine.specs.declared.command.Command.TheVariants.{Kill, RemoveThread};
 ghost use Rattle.lot_machine.specs.declared.event.Event.TheVariants.{Command, Draw, Expire, Trap, Preempt, Wake};
 ghost use Rattle.lot_machine.specs.declared.reference.ThreadRef.TheVariants.{Named, Numbered};
@@ -16,12 +16,13 @@ ghost use Rattle.lot_machine.specs.declared.record.Status.TheVariants as status;
 ghost use Rattle.lot_machine.specs.declared.refusal.Refusal.TheVariants as refusal;
 ghost use Rattle.lot_machine.specs.declared.refusal.TrapRefusal.TheVariants as trap_refusal;
 
-/// A running thread that is killed leaves its processor, which is idle then; other processors run on. The thread is
-/// charged nothing more, so a host that charges what it ran preempts it first.
+/// A killed running thread leaves its processor idle; other processors run on. The thread is charged nothing more, so a
+/// host that charges for the ticks run preempts it first.
 pub fn running()
     ensures turns { answers (fundx 400 base (codes "a") ∷ fundx 100 base (codes "b") ∷ [])
         (Draw 1 0 ∷ kill (codes "a") ∷ Expire 1 ∷ Draw 1 99 ∷ [])
-        ≡ reply.Winner 1 0 500 None ∷ reply.Done ∷ reply.Refused refusal.NotRunning ∷ reply.Winner 2 99 100 None ∷ [] }
+        ≡ reply.Winner 1 0 500 None ∷ reply.Killed 1 ∷ reply.Refused refusal.NotRunning
+        ∷ reply.Winner 2 99 100 None ∷ [] }
     ensures elsewhere { statuses (after (fundx 400 base (codes "a") ∷ fundx 100 base (codes "b") ∷ Draw 1 0 ∷ Draw 2 0
         ∷ kill (codes "b") ∷ [])) ≡ status.Running 1 0 ∷ status.Dead ∷ [] }
     ensures row { thread_row (after (fundx 400 base (codes "a") ∷ Draw 1 0 ∷ Trap 1 29 (Lock 1) ∷ kill (codes "a")
@@ -46,7 +47,7 @@ pub fn callers()
 pub fn receivers()
     ensures { answers (many_clients ++ Draw 1 0 ∷ Trap 1 0 (Receive 1) ∷ [])
         (kill (codes "v") ∷ Draw 1 0 ∷ Trap 1 0 (Call 1 5) ∷ [])
-        ≡ reply.Done ∷ reply.Winner 2 0 50 None ∷ reply.Trapped 2 1 outcome.Queued false ∷ [] }
+        ≡ reply.Killed 1 ∷ reply.Winner 2 0 50 None ∷ reply.Trapped 2 1 outcome.Queued false ∷ [] }
 {}
 
 /// The clients of a killed server are Ready: their calls return with nothing delivered, and their compensation stays.
@@ -59,15 +60,15 @@ pub fn servers()
     ensures values { values (after (many_clients ++ first_client ++ second_client ++ kill (codes "v") ∷ []))
         ≡ 0 ∷ 20 ∷ 30 ∷ [] }
     ensures nothing { answers (many_clients ++ first_client ++ second_client) (kill (codes "v") ∷ Draw 1 0 ∷ [])
-        ≡ reply.Done ∷ reply.Winner 2 0 5000 None ∷ [] }
+        ≡ reply.Killed 1 ∷ reply.Winner 2 0 5000 None ∷ [] }
     ensures client { answers (many_clients ++ first_client ++ second_client)
         (kill (codes "c") ∷ Trap 1 0 (ReplyTo 9) ∷ Trap 1 0 (ReplyTo 9) ∷ [])
-        ≡ reply.Done ∷ reply.Trapped 1 1 (outcome.Replied 3) false
+        ≡ reply.Killed 2 ∷ reply.Trapped 1 1 (outcome.Replied 3) false
         ∷ reply.Trapped 1 1 (outcome.Refused trap_refusal.NothingToReply) false ∷ [] }
 {}
 
 /// The mutex of a killed owner passes to the thread that has waited longest, or is free if none waits. A killed waiter
-/// is no longer among the others (6.1).
+/// leaves the queue (6.1).
 pub fn owners()
     ensures passed { (after (mutex_lottery ++ mutex_turns ++ kill (codes "a") ∷ [])).mutexes
         ≡ record { owner = Some 2; waiters = 3 ∷ [] } ∷ record { owner = None; waiters = [] } ∷ [] }
@@ -84,15 +85,16 @@ pub fn owners()
         ≡ status.Running 1 0 ∷ status.Dead ∷ status.Waiting 1 ∷ [] }
 {}
 
-/// A sleeper can be killed, and not woken then. A thread that has ended, and one that doesn't exist, can't be killed.
+/// A sleeper can be killed, and not woken afterwards. A thread that has ended can't be killed, nor can one that doesn't
+/// exist.
 pub fn refusals()
-    ensures sleeper { answers (fundx 400 base (codes "a") ∷ Draw 1 0 ∷ Trap 1 0 Sleep ∷ [])
+    ensures sleeper { answers (fundx 400 base (codes "a") ∷ Draw 1 0 ∷ Trap 1 0 (Sleep tt) ∷ [])
         (kill (codes "a") ∷ Wake 1 ∷ Draw 1 0 ∷ [])
-        ≡ reply.Done ∷ reply.Refused refusal.NotAsleep ∷ reply.Idle ∷ [] }
+        ≡ reply.Killed 1 ∷ reply.Refused refusal.NotAsleep ∷ reply.Idle ∷ [] }
     ensures dead { answers (fundx 400 base (codes "a") ∷ fundx 100 base (codes "b") ∷ Draw 1 0 ∷ Trap 1 0 Exit ∷ [])
         (kill (codes "a") ∷ kill (codes "c") ∷ Command (Kill (Numbered 2)) ∷ Command (Kill (Numbered 2))
         ∷ Command (Kill (Numbered 3)) ∷ Command (Kill (Numbered 0)) ∷ [])
-        ≡ reply.Refused refusal.DeadThread ∷ reply.Refused refusal.NoThread ∷ reply.Done
+        ≡ reply.Refused refusal.DeadThread ∷ reply.Refused refusal.NoThread ∷ reply.Killed 2
         ∷ reply.Refused refusal.DeadThread ∷ reply.Refused refusal.NoThread ∷ reply.Refused refusal.NoThread ∷ [] }
     ensures removed { answers (fundx 400 base (codes "a") ∷ kill (codes "a") ∷ [])
         (Command (RemoveThread (Named (codes "a"))) ∷ unfund 1 ∷ Command (RemoveThread (Named (codes "a")))

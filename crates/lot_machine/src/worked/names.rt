@@ -1,4 +1,4 @@
-//! Worked rows for names: threads without one, good names, and plain names.
+//! Worked rows for names: threads without a name, good names, and plain names.
 ghost use Rattle.std.specs.Prelude.{◌≡◌, [], ◌∷◌, codes, true};
 ghost use Rattle.lot_machine.specs.declared.command.Command.TheVariants.{Fund, Kill};
 ghost use Rattle.lot_machine.specs.declared.event.Event.TheVariants.{Command};
@@ -12,8 +12,8 @@ ghost use Rattle.lot_machine.specs.Rows.{ticket_row, thread_row};
 ghost use Rattle.lot_machine.specs.Worked.{after, answers, answers_in, any_printable, base, mktkt, mkcur, rmcur, mkthr};
 ghost use Rattle.lot_machine.specs.Worked.{rmthr, kill, fundx, fund, ticket_shown, thread_shown};
 
-/// Any number of threads may have no name, and a currency has one. No command means a thread by the name that it
-/// doesn't have; its number means it.
+/// Any number of threads may have no name; a currency must have one. No command can name such a thread: commands mean
+/// it by its number.
 pub fn no_name()
     ensures made { answers [] (mkthr [] ∷ mkthr [] ∷ fundx 5 base [] ∷ mkcur [] ∷ [])
         ≡ reply.Thread 1 ∷ reply.Thread 2 ∷ reply.Funded 1 3 ∷ reply.Refused refusal.BadName ∷ [] }
@@ -23,7 +23,7 @@ pub fn no_name()
         ∷ reply.Refused refusal.NoCurrency ∷ reply.Refused refusal.NoCurrency ∷ [] }
     ensures by_number { answers (mkthr [] ∷ mktkt 5 base ∷ []) (Command (Fund 1 (target_ref.Thread 1))
         ∷ Command (Kill (thread_ref.Numbered 1)) ∷ [])
-        ≡ reply.Done ∷ reply.Done ∷ [] }
+        ≡ reply.Done ∷ reply.Killed 1 ∷ [] }
     ensures thread { thread_row (after (fundx 5 base [] ∷ [])) 1 ≡ thread_shown [] status.Ready 5 5 0 0 }
     ensures ticket { ticket_row (after (fundx 5 base [] ∷ [])) 1 ≡ ticket_shown 5 base [] (target.Thread 1) true 5 }
 {}

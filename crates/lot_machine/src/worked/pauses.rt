@@ -1,6 +1,6 @@
 //! Worked rows for sleepers, preemptions and late quanta.
 ghost use Rattle.std.specs.Prelude.{◌≡◌, [], ◌∷◌, ◌++◌, codes, false, None};
-ghost use Rattle.lot_machine.specs.declared.action.Action.TheVariants.{Lock, Sleep, Exit};
+ghost use Rattle.lot_machine.specs.declared.trap.Trap.TheVariants.{Lock, Sleep, Exit};
 ghost use Rattle.lot_machine.specs.declared.event.Event.TheVariants.{Draw, Expire, Trap, Preempt, Overrun, Wake};
 ghost use Rattle.lot_machine.specs.Worked.{after, answers, after_in, answers_in, uncompensated, values, weights};
 ghost use Rattle.lot_machine.specs.Worked.{fundx, base};
@@ -13,11 +13,11 @@ ghost use Rattle.lot_machine.specs.declared.refusal.Refusal.TheVariants as refus
 /// thread that blocks (4.4, 4.5).
 pub fn sleeping()
     ensures turns { answers (fundx 400 base (codes "a") ∷ fundx 100 base (codes "b") ∷ [])
-        (Draw 1 0 ∷ Trap 1 19 Sleep ∷ Draw 1 99 ∷ Expire 1 ∷ Wake 1 ∷ Draw 1 1999 ∷ [])
+        (Draw 1 0 ∷ Trap 1 19 (Sleep tt) ∷ Draw 1 99 ∷ Expire 1 ∷ Wake 1 ∷ Draw 1 1999 ∷ [])
         ≡ reply.Winner 1 0 500 None ∷ reply.Trapped 1 20 outcome.Slept false ∷ reply.Winner 2 99 100 None
         ∷ reply.Expired 2 100 ∷ reply.Done ∷ reply.Winner 1 1999 2100 None ∷ [] }
-    ensures shares { values (after (two_to_one ++ Draw 1 0 ∷ Trap 1 0 Sleep ∷ [])) ≡ 0 ∷ 200 ∷ [] }
-    ensures woken { values (after (two_to_one ++ Draw 1 0 ∷ Trap 1 0 Sleep ∷ Wake 1 ∷ [])) ≡ 133 ∷ 66 ∷ [] }
+    ensures shares { values (after (two_to_one ++ Draw 1 0 ∷ Trap 1 0 (Sleep tt) ∷ [])) ≡ 0 ∷ 200 ∷ [] }
+    ensures woken { values (after (two_to_one ++ Draw 1 0 ∷ Trap 1 0 (Sleep tt) ∷ Wake 1 ∷ [])) ≡ 133 ∷ 66 ∷ [] }
     ensures refused { answers (fundx 400 base (codes "a") ∷ Draw 1 0 ∷ [])
         (Wake 1 ∷ Wake 2 ∷ Wake 0 ∷ Trap 1 0 Exit ∷ Wake 1 ∷ [])
         ≡ reply.Refused refusal.NotAsleep ∷ reply.Refused refusal.NoThread ∷ reply.Refused refusal.NoThread
@@ -47,12 +47,12 @@ pub fn overruns()
         ≡ reply.Refused refusal.BadTicks ∷ reply.Expired 1 4294967295 ∷ [] }
 {}
 
-/// Two threads have 400 each, and one gives up its quantum after a fifth of it: it weighs five times its value until it
-/// next wins, and in a kernel without compensation just its value, as after a late end of a quantum (3.4, 4.5).
+/// Two threads have 400 each, and one gives up its quantum after a fifth of it. With compensation it weighs five times
+/// its value until it next wins. Without it, it weighs its value, then and after a late end of its quantum (3.4, 4.5).
 pub fn without_compensation()
     ensures compensated { weights (after early_yield) ≡ 2000 ∷ 400 ∷ [] }
     ensures yields { weights (after_in uncompensated early_yield) ≡ 400 ∷ 400 ∷ [] }
-    ensures sleeps { weights (after_in uncompensated (fundx 400 base (codes "a") ∷ Draw 1 0 ∷ Trap 1 19 Sleep
+    ensures sleeps { weights (after_in uncompensated (fundx 400 base (codes "a") ∷ Draw 1 0 ∷ Trap 1 19 (Sleep tt)
         ∷ Wake 1 ∷ [])) ≡ 400 ∷ [] }
     ensures late { answers_in uncompensated (fundx 400 base (codes "a") ∷ Draw 1 0 ∷ [])
         (Overrun 1 100 ∷ Draw 1 399 ∷ []) ≡ reply.Expired 1 200 ∷ reply.Winner 1 399 400 None ∷ [] }

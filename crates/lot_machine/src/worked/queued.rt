@@ -1,6 +1,6 @@
 //! Worked rows for queued calls that lend.
 ghost use Rattle.std.specs.Prelude.{◌≡◌, [], ◌∷◌, ◌++◌, codes, false, Some, None};
-ghost use Rattle.lot_machine.specs.declared.action.Action.TheVariants.{Call, Receive, Serve, Lock, Unlock};
+ghost use Rattle.lot_machine.specs.declared.trap.Trap.TheVariants.{Call, Receive, Serve, Lock, Unlock};
 ghost use Rattle.lot_machine.specs.declared.event.Event.TheVariants.{Draw, Trap};
 ghost use Rattle.lot_machine.specs.Worked.{after_in, answers_in, largest, queues_lend, values, weights, statuses};
 ghost use Rattle.lot_machine.specs.Worked.{kill, unfund, rmthr};
@@ -11,9 +11,9 @@ ghost use Rattle.lot_machine.specs.declared.reply.Outcome.TheVariants as outcome
 ghost use Rattle.lot_machine.specs.declared.record.Status.TheVariants as status;
 ghost use Rattle.lot_machine.specs.declared.refusal.TrapRefusal.TheVariants as trap_refusal;
 
-/// A rich client's call waits behind those of two poor ones. If queued calls lend, the server that works for a poor
-/// one has the rich one's funding already; otherwise it has the poor one's alone, and a thread of 1000 wins nine draws
-/// of ten (4.6).
+/// A rich client's call waits behind those of two poor ones. With `queued_lend` the server has the rich client's
+/// funding already while it works for a poor one. Without it the server has the poor one's funding alone, and a thread
+/// of 1000 wins nine draws of ten (4.6).
 pub fn rich_client()
     ensures lent { values (after_in queues_lend rich_queued) ≡ 1002 ∷ 1 ∷ 1 ∷ 1000 ∷ 1000 ∷ [] }
     ensures own { values (after_in largest rich_queued) ≡ 1 ∷ 1 ∷ 0 ∷ 0 ∷ 1000 ∷ [] }
@@ -25,8 +25,8 @@ pub fn rich_client()
         ≡ 1001 ∷ 1 ∷ 1 ∷ 1000 ∷ 1000 ∷ [] }
 {}
 
-/// Of several servers the one that took the last call is the port's, though another one waits there. All calls that
-/// wait lend to it alone, until another thread takes one of them (4.6).
+/// Of several threads that serve a port, the one that took the last call is its server, even while another waits there.
+/// All queued calls lend to it alone, until another thread takes one of them (4.6).
 pub fn several_servers()
     ensures waits { (after_in queues_lend (two_servers ++ second_waits)).mutexes
         ≡ record { owner = None; waiters = [] } ∷ record { owner = None; waiters = [] }
@@ -47,9 +47,8 @@ pub fn several_servers()
         ∷ Trap 1 0 (Receive 1) ∷ [])) ≡ 30 ∷ 80 ∷ 20 ∷ 30 ∷ 40 ∷ [] }
 {}
 
-/// A server that is killed is no port's server: the caller that waits lends to nobody, until another thread receives.
-/// A server that ends is none either, so it can be removed. One that waits at the port may go, and the server stays
-/// (4.6).
+/// A killed server leaves its port without one: the queued caller lends to nobody until another thread receives. So
+/// does a server that ends, and it can be removed. If a thread that waits at the port goes, the server stays (4.6).
 pub fn server_gone()
     ensures killed { values (after_in queues_lend (two_servers ++ three_served ++ kill (codes "w") ∷ []))
         ≡ 30 ∷ 0 ∷ 20 ∷ 30 ∷ 0 ∷ [] }
@@ -67,8 +66,8 @@ pub fn server_gone()
         ∷ Trap 1 0 (Call 1 6) ∷ [])) ≡ 60 ∷ 0 ∷ 20 ∷ 30 ∷ 40 ∷ [] }
 {}
 
-/// A server that calls its own port is the port's server no longer, so nothing is lent in a circle. Another thread
-/// that receives there gets all that waits (4.6).
+/// A server that calls its own port stops being the port's server, so no lends form a cycle. The next thread that
+/// receives there gets the funding of all queued calls (4.6).
 pub fn own_port()
     ensures queued { statuses (after_in queues_lend own_port) ≡ status.Queued 1 ∷ status.Served 1 ∷ status.Ready ∷ [] }
     ensures gone { (after_in queues_lend own_port).mutexes
@@ -81,8 +80,9 @@ pub fn own_port()
         ≡ 30 ∷ 20 ∷ 35 ∷ [] }
 {}
 
-/// A lock whose wait would close a cycle through a port isn't refused: the port has no server then. Another thread
-/// that receives there gets all that waits. The holder of a port's server is no mutex (4.6, 6.1).
+/// The kernel doesn't refuse a lock whose wait would close a cycle through a port: the port loses its server instead.
+/// The next thread that receives there gets the funding of all queued calls. The holder of a port's server is no mutex
+/// (4.6, 6.1).
 pub fn port_cycle()
     ensures before { values (after_in queues_lend port_cycle) ≡ 10 ∷ 60 ∷ 30 ∷ 5 ∷ [] }
     ensures waits { answers_in queues_lend port_cycle (Trap 1 0 (Lock 1) ∷ [])

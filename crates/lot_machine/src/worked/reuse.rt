@@ -1,6 +1,6 @@
-//! Worked rows for numbers that are given again, and for a kernel that gives each number once.
+//! Worked rows for kernels with `reuse` and without.
 ghost use Rattle.std.specs.Prelude.{◌≡◌, [], ◌∷◌, ◌++◌, codes, false, None};
-ghost use Rattle.lot_machine.specs.declared.action.Action.TheVariants.{Exit};
+ghost use Rattle.lot_machine.specs.declared.trap.Trap.TheVariants.{Exit};
 ghost use Rattle.lot_machine.specs.declared.event.Event.TheVariants.{Draw, Trap};
 ghost use Rattle.lot_machine.specs.Worked.{after_in, answers_in, mktkt, rmtkt, mkcur, rmcur, mkthr, rmthr, fundx, fund};
 ghost use Rattle.lot_machine.specs.Worked.{unfund, base, two_of_each, two_in_all, thread_shown};
@@ -11,8 +11,8 @@ ghost use Rattle.lot_machine.specs.declared.reply.Reply.TheVariants as reply;
 ghost use Rattle.lot_machine.specs.declared.reply.Outcome.TheVariants as outcome;
 ghost use Rattle.lot_machine.specs.declared.refusal.Refusal.TheVariants as refusal;
 
-/// Tickets of a kernel that has room for two at once: the number of one removed is given again, and those of two
-/// removed come back in reverse order.
+/// Tickets of a kernel with room for two at once: the next ticket gets a removed one's number, and two removed numbers
+/// come back in reverse order.
 pub fn tickets()
     ensures again { answers_in two_of_each [] (mktkt 5 base ∷ mktkt 6 base ∷ mktkt 7 base ∷ rmtkt 1 ∷ mktkt 7 base
         ∷ mktkt 8 base ∷ [])
@@ -25,7 +25,7 @@ pub fn tickets()
         ≡ reply.Done ∷ reply.Refused refusal.Full ∷ [] }
 {}
 
-/// Currencies of a kernel that has room for two beside base.
+/// Currencies of a kernel with room for two user currencies.
 pub fn currencies()
     ensures again { answers_in two_of_each [] (mkcur (codes "a") ∷ mkcur (codes "b") ∷ mkcur (codes "c")
         ∷ rmcur (codes "a") ∷ mkcur (codes "c") ∷ mkcur (codes "d") ∷ [])
@@ -39,8 +39,8 @@ pub fn currencies()
         ≡ reply.Done ∷ reply.Refused refusal.Full ∷ [] }
 {}
 
-/// Threads of a kernel that has room for two: a thread with a number given again has won and used nothing, and its
-/// name is its own.
+/// Threads of a kernel with room for two: a thread with a reused number has won and used nothing, and has a name of its
+/// own.
 pub fn threads()
     ensures again { answers_in two_of_each one_thread_removed (mkthr (codes "c") ∷ mkthr (codes "d") ∷ [])
         ≡ reply.Thread 1 ∷ reply.Refused refusal.Full ∷ [] }

@@ -16,7 +16,7 @@ impl Protocol<System, View> for OneBaton {
     ghost first = { newcomer };
 }
 
-/// The first push of all.
+/// The first push.
 pub struct Opens;
 
 impl Outcome<System, View> for Opens {

@@ -10,16 +10,16 @@ use std::marker::Model;
 /// A seat's pass of the queue.
 pub(super) type Token = Pass<System, View>;
 
-/// The right of one actor to make turns, with the history that it has seen, and storage for the fault that stopped
-/// its worker.
+/// The right of one actor to make turns, with the history that it has seen, and storage for the fault that stopped its
+/// worker.
 ///
-/// A station deals one for each actor, and they can't be copied. The history that a seat has seen is ghost state:
+/// A station deals one for each actor, and nothing can copy it. The history that a seat has seen is ghost state:
 /// contracts refer to it, and each call of the station extends it or leaves it unchanged.
 #[derive(Drop)]
 pub struct BatonSeat {
     pub(super) pass: Token,
     pub(super) actor: u32,
-    /// The counters of its actor's turns in the history that it has seen.
+    /// The counters of the actor's turns in the history that the seat has seen.
     pub(super) counts: Counts,
     pub(super) stopped: Option<TurnFault>,
 }
@@ -44,28 +44,28 @@ impl Model for BatonSeat {
 }
 
 impl BatonSeat {
-    /// Its actor: 0 for the console, otherwise the processor.
+    /// The actor: 0 for the console, otherwise the processor's number.
     pub fn actor(&self) -> u32
         ensures { result ≡ self.now.actor }
     {
         self.actor
     }
 
-    /// The number of turns that it has made.
+    /// The number of turns that the seat has made.
     pub fn turns(&self) -> u64
         ensures { result ≡ (seat_counts self.now).turns }
     {
         self.counts.turns
     }
 
-    /// Its quanta: the draws among its turns that a thread won.
+    /// The quanta: the won draws among the seat's turns.
     pub fn quanta(&self) -> u64
         ensures { result ≡ (seat_counts self.now).quanta }
     {
         self.counts.quanta
     }
 
-    /// Its ticks: the ticks of the expiries and traps among its turns.
+    /// The ticks: those of the expiries and traps among the seat's turns.
     pub fn ticks(&self) -> u64
         ensures { result ≡ (seat_counts self.now).ticks }
     {

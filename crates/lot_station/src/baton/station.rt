@@ -23,7 +23,7 @@ use std::thread;
 
 type Queue = RuledArrayQueue<System, View, OneBaton>;
 
-/// The station of one system, which its seats share, from any threads.
+/// The station of one system, which its seats share, on any threads.
 #[derive(Drop)]
 pub struct BatonStation {
     queue: Queue,
@@ -42,7 +42,7 @@ impl Model for BatonStation {
     ghost invariant = { λ s. ruled_capacity s.queue ≡ 1 };
 }
 
-/// The error of closing a station with seats that aren't all of its own, each once and in order. It returns both.
+/// The error of closing a station without exactly one seat for each actor, in order. It returns both.
 #[derive(Drop)]
 pub struct SeatMissing {
     pub station: BatonStation,
@@ -81,7 +81,7 @@ impl BatonStation {
         Ok((BatonStation { queue, processors }, seats))
     }
 
-    /// Makes a turn of the seat's actor, as `System::turn` does. It may wait for other seats.
+    /// Makes a turn of the seat's actor, like `System::turn`. It may wait for other seats.
     ///
     /// Afterwards the seat has seen a legal history that extends the one it had seen. On `Ok` that history ends with
     /// this turn; on a fault, which is that of `System::turn`, it has no further turn of the actor.
@@ -104,8 +104,8 @@ impl BatonStation {
         answer
     }
 
-    /// The next work of the seat's actor, as `System::work` returns it, at the end of the history that the seat has
-    /// then seen. It may wait for other seats.
+    /// The next work of the seat's actor, like `System::work`, at the end of the history that the seat has then seen.
+    /// It may wait for other seats.
     pub fn work<R: Wait>(&self, rt: &R, seat: &mut BatonSeat) -> Option<Work>
         requires { seat.old.station ≡ self.now.id }
         ensures same { IsSameSeat seat.old seat.new }
@@ -147,9 +147,9 @@ impl BatonStation {
 
     /// Takes the seats, and returns the system. It may wait for other seats.
     ///
-    /// The seats must be those that `open` dealt with the station. If each of them is there once, in order, the
-    /// system's history extends all that each has seen, and each actor's turns in it are those that its seat has
-    /// made.
+    /// The seats must be ones that `open` dealt with the station. Fails with `SeatMissing` unless there is exactly one
+    /// for each actor, in order. The system's history extends the history that each seat has seen, and each actor's
+    /// turns in it are those that its seat has made.
     pub fn close<R: Wait>(self, rt: &R, seats: Vec<BatonSeat>) -> Result<System, SeatMissing>
         requires { All (IsSeatOf self) seats.items }
         ensures order { IfOk result (λ x. HasEachSeat self.processors seats.items) }
@@ -202,7 +202,7 @@ fn in_order(processors: u32, seats: &[BatonSeat]) -> bool
     true
 }
 
-/// The passes of all seats, joined to one.
+/// The passes of all seats, joined into one.
 fn joined(queue: &Queue, mut seats: Vec<BatonSeat>) -> Token
     requires seats { All (λ s. s.station ≡ queue.now.table.shared.table_id) seats.items }
     requires some { 0 < length seats.items }

@@ -1,9 +1,9 @@
-//! The knowledge of a pass of the queue, as ghost values: these types have no values at run time.
+//! The knowledge of a pass of the queue, as ghost values, which have no size at run time.
 
 use lot_engine::System;
 use std::collections::LinkedList;
 
-/// The pass owns the actors from `from` to below `to`, and saw the system like this.
+/// The pass owns the actors from `from` to below `to`, and last saw the system like this.
 pub struct Claim {
     pub from: u64,
     pub to: u64,

@@ -1,4 +1,4 @@
-//! For runs in which one allocation is refused, each in turn.
+//! Tests for runs in which one allocation fails, each in turn.
 
 use super::same::check_same;
 use super::{CALL_AND_REPLY, check_history, make_turns};
@@ -10,7 +10,7 @@ use std::io;
 use std::io::Write;
 use std::test::Fail;
 
-/// A writer that counts what it takes, and allocates no memory.
+/// A writer that counts the bytes that it accepts, and allocates nothing.
 #[derive(Drop)]
 struct Counting {
     taken: usize,
@@ -41,7 +41,6 @@ fn plays_or_lacks_memory(rt: HostRuntime) {
     }
 }
 
-/// A program, and a system of it.
 fn opened(alloc: Global) -> Result<(Program, System), Fail> {
     let Ok(program) = parse(alloc, CALL_AND_REPLY.as_bytes()) else {
         return Err("a program".into());
@@ -50,7 +49,7 @@ fn opened(alloc: Global) -> Result<(Program, System), Fail> {
     Ok((program, system))
 }
 
-// This fails in the runs that refuse an allocation of it, and the next fails in no others: no turn takes memory.
+// This fails in the runs that refuse an allocation of it, and the next fails in no others, since no turn allocates.
 #[test]
 fn opens(rt: HostRuntime) -> Result<(), Fail> {
     let (_, system) = opened(rt.alloc())?;

@@ -1,4 +1,4 @@
-//! Tickets with names: for which ticket each command is, and the reply.
+//! Named tickets: the ticket of each command, and the reply.
 
 use super::same::{check_same, check_same_at};
 use super::{opened, parsed};
@@ -7,7 +7,8 @@ use lot_system::System;
 use std::process::Abort;
 use std::test::*;
 
-/// Two tickets get names. The first can't be removed while it funds something. Once it is, another one gets its number.
+/// Two tickets get names. The first can't be removed while it has a target. Once it is removed, another ticket gets its
+/// number.
 const NAMED: &str = "lottery 3
 for 1
 reuse
@@ -28,7 +29,7 @@ rmtkt 1
 unfund wage
 ";
 
-/// The ticket that a command is for, if it is for one, and its reply.
+/// The ticket of a command, if it has one, and the reply.
 type Row = (Option<u64>, Reply);
 
 /// The turns of the commands above, in order.
@@ -53,7 +54,7 @@ const ROWS: &[Row] = &[
     (Some(2), Reply::Done),
 ];
 
-/// The ticket that an event's command is for, if it is for one.
+/// The ticket of an event's command, if it has one.
 fn ticket_of(event: &Event) -> Option<u64> {
     match event {
         Event::Command(
@@ -84,7 +85,7 @@ fn check_rows(rt: &impl Abort, system: &mut System) {
     check_same(rt, &wage.amount, &4);
 }
 
-// A name means the ticket that got it, until that is removed: 0 then, which no ticket has.
+// A name means the ticket that got it, until the ticket is removed: then it means 0, which no ticket has.
 #[test]
 fn names_of_tickets(rt: HostRuntime) {
     let alloc = rt.alloc();

@@ -1,4 +1,4 @@
-//! Reports with their histories, and what those are made of.
+//! Reports with their histories, and the counts of numbers.
 
 use super::same::{check_same, check_same_at};
 use super::{SPINNER, make_turns, opened, parsed};
@@ -12,8 +12,8 @@ use std::io::{ErrorKind, Write};
 use std::process::Abort;
 use std::test::*;
 
-/// A writer that keeps what it takes and whether all of that was flushed, and whose call of this number fails: with
-/// an error of this kind, or by taking nothing.
+/// A writer that records the bytes that it accepts and whether all of them were flushed. Its call of this number fails:
+/// with an error of this kind, or by accepting nothing.
 #[derive(Drop)]
 struct Failing {
     written: Vec<u8>,
@@ -24,7 +24,7 @@ struct Failing {
 }
 
 impl Failing {
-    /// Counts one more call, and fails if it is to.
+    /// Counts one more call, and fails if it is the one.
     fn call(&mut self) -> io::Result<()> {
         self.calls = self.calls.saturating_add(1);
         match self.kind {
@@ -51,8 +51,8 @@ impl Write for Failing {
     }
 }
 
-/// Ends a system to a writer whose call of this number fails, and returns whether it has failed: then that was its
-/// last call, and what it took is a beginning of the text.
+/// Ends a system to a writer whose call of this number fails. Returns whether the writer failed; then it got no further
+/// call, and accepted a beginning of the text.
 fn ending_fails(
     rt: &impl Abort,
     alloc: Global,
@@ -79,7 +79,7 @@ fn ending_fails(
     has_failed
 }
 
-/// Checks that the writer's failure was its last call, and that it took a beginning of the text.
+/// Checks that the writer's failure was its last call, and that it accepted a beginning of the text.
 fn check_failed(rt: &impl Abort, ended: Result<(), PlayFault>, writer: &Failing, text: &str) {
     let fails_at = writer.fails_at;
     check_same(
@@ -91,7 +91,7 @@ fn check_failed(rt: &impl Abort, ended: Result<(), PlayFault>, writer: &Failing,
     check_same_at(rt, &fails_at, &is_beginning, &true);
 }
 
-/// Checks that the writer took the text, and that all of it was flushed.
+/// Checks that the writer accepted the text, and that all of it was flushed.
 fn check_written(rt: &impl Abort, ended: Result<(), PlayFault>, writer: &Failing, text: &str) {
     check_same(rt, &(ended, writer.is_flushed), &(Ok(()), true));
     let is_text = text.as_bytes() == writer.written.as_slice();
@@ -117,8 +117,7 @@ fn check_end(rt: &impl Abort, alloc: Global, (input, actors): (&str, &[u8]), tex
     check_ends(rt, alloc, &mut system, text)
 }
 
-/// The number of the first call whose failure never occurs, since there are fewer calls, or since it is a flush,
-/// which accepts no bytes.
+/// The number of the first call that can't fail so: there are fewer calls, or it is a flush, which accepts no bytes.
 fn first_unmade_call(
     rt: &impl Abort,
     alloc: Global,
@@ -199,7 +198,7 @@ fn make_and_remove(rt: &impl Abort, kernel: &mut Kernel) {
     check_command(rt, kernel, Command::RemoveTicket { ticket: 1 }, Reply::Done);
 }
 
-// Numbers are never reused: a removed one stays used.
+// The kernel never reuses numbers: a removed one stays used.
 #[test]
 fn numbers_given(rt: HostRuntime) {
     let sizes = Sizes {

@@ -1,5 +1,5 @@
-//! Comparisons that all tests share. An `assert_eq!` costs the function that it stands in a second of proof, and more
-//! where much is known; a call of these costs a tenth of that.
+//! Comparisons that all tests share. An `assert_eq!` costs its function a second of proof, or more in a large one; a
+//! call of these costs a tenth of that.
 use std::fmt::Debug;
 use std::process::Abort;
 

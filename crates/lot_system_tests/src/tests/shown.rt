@@ -1,5 +1,5 @@
-//! Inputs that are explained, and shown as tables and pictures. The tests of this file are for runs in which one
-//! allocation is refused, each in turn; those of the modules need all memory that they ask for.
+//! Explanations, tables and pictures of inputs. The tests of this file are for runs in which one allocation fails, each
+//! in turn; those of the modules need all the memory that they request.
 ghost use Rattle.std.specs.Prelude.{◌≡◌, false};
 
 mod charts;
@@ -18,7 +18,8 @@ use lot_curves::Measure;
 use lot_diagnostics::write_warnings;
 use lot_explain::{Detail, explain_bytes};
 use lot_io::{IoFault, Watched};
-use lot_system::{Played, Warnings, play_bytes};
+use lot_simulation::Warnings;
+use lot_system::{Played, play_bytes};
 use std::alloc::Global;
 use std::io;
 use std::io::Write;
@@ -48,7 +49,7 @@ mkthr b spin
 
 const INPUTS: &[&str] = &[SCHEDULED, TIMED];
 
-/// A writer that counts what it takes, and allocates no memory.
+/// A writer that counts the bytes that it accepts, and allocates nothing.
 #[derive(Drop)]
 struct Counting {
     taken: usize,
@@ -65,7 +66,7 @@ impl Write for Counting {
     }
 }
 
-/// The form in which an input is shown.
+/// The view of an input.
 #[derive(Clone, Copy)]
 enum Shown {
     Explained,
@@ -73,7 +74,7 @@ enum Shown {
     Picture(&'static str),
 }
 
-/// Shows the input, and keeps its warnings.
+/// Shows the input, and records its warnings.
 fn show_with<W: Write>(
     alloc: Global,
     shown: Shown,
@@ -113,7 +114,7 @@ fn counted(alloc: Global, shown: Shown, input: &str) -> (Result<Played, IoFault>
     (ended, taken)
 }
 
-/// Shows the input, and returns the outcome, and whether the output is this.
+/// Shows the input, and returns the outcome, and whether the output is the expected one.
 fn outcome(
     alloc: Global,
     shown: Shown,
@@ -126,7 +127,7 @@ fn outcome(
     Ok((played, is_written))
 }
 
-/// If an allocation fails, nothing was written.
+/// Checks that a failed allocation leaves nothing written.
 fn check(rt: &impl Abort, alloc: Global, shown: Shown) {
     for input in INPUTS {
         let (ended, written) = counted(alloc, shown, input);
@@ -155,7 +156,6 @@ fn warned(alloc: Global, input: &str) -> Option<Warnings> {
     played.is_ok().then_some(warnings)
 }
 
-/// The words of the warnings.
 fn words_of(alloc: Global, warnings: &Warnings, input: &str) -> Option<Vec<u8>> {
     let mut words = Vec::new(alloc);
     let written = write_warnings(&mut words, warnings, input.as_bytes(), None);

@@ -1,4 +1,4 @@
-//! Stations whose seats take turns one after another and in threads, and workers at gates; the texts of faults, and
+//! Stations whose seats take turns one after another and on threads, and workers at gates; the texts of faults, and
 //! runs in which an allocation fails.
 
 ghost use Rattle.std.specs.Prelude.{◌≡◌, false};
@@ -79,7 +79,6 @@ schedule 0 1 2 1 2
 /// The seats' shares after these turns.
 static ENDED: [Shares; 3] = [(1, 0, 0), (2, 1, 100), (2, 1, 0)];
 
-/// The program of an input.
 fn parsed(rt: &impl Abort, alloc: Global, input: &str) -> Program {
     parse(alloc, input.as_bytes()).expect(rt, "a program")
 }

@@ -11,7 +11,8 @@ use std::alloc::Global;
 use std::process::Abort;
 use std::test::*;
 
-/// A thread comes at tick 2. It runs for 4 ticks to the end of its quantum, and for 2 and the one of its end.
+/// A thread made at tick 2. It runs for 4 ticks to the end of its quantum, and then for 2 ticks and the tick of its
+/// exit.
 pub(super) const COMES_LATER: &str = "lottery 3
 quantum 4
 for 12
@@ -55,7 +56,7 @@ fn next_of(program: &Program, playback: &mut Playback) -> Option<Row>
     Some((turn.time?, turn.actor, thread, ticks))
 }
 
-/// Makes the turns, and compares what each was.
+/// Makes the turns, and compares each.
 fn check_turns(rt: &impl Abort, program: &Program, playback: &mut Playback, rows: &[Option<Row>])
     requires { playback.old.seen.setting.program ≡ program.now }
 {
@@ -64,7 +65,6 @@ fn check_turns(rt: &impl Abort, program: &Program, playback: &mut Playback, rows
     }
 }
 
-/// A playback of the program.
 fn opened(rt: &impl Abort, alloc: Global, program: &Program) -> Playback
     ensures { result.seen.setting.program ≡ program.now }
 {
@@ -77,8 +77,7 @@ fn check_entries(rt: &impl Abort, system: &System, history: &[u8], woken: &[u16]
     check_same(rt, &system.woken(), &woken)
 }
 
-/// Makes the turns of the program, and compares what each was, and then the history and the threads that the timer
-/// woke.
+/// Makes the turns of the program, and compares each, and then the history and the threads that the timer woke.
 fn check_played(
     rt: &impl Abort,
     alloc: Global,
@@ -105,7 +104,7 @@ const TURNS: &[Option<Row>] = &[
 
 const HISTORY: &[u8] = &[1, 0, 1, 1, 1, 1, 1];
 
-// An idle draw waits for the thread, and another for nothing that comes.
+// After an idle draw the processor waits for the thread, and after another for nothing that comes.
 #[test]
 fn turns_in_time(rt: HostRuntime) {
     let alloc = rt.alloc();
@@ -144,8 +143,8 @@ const HISTORY_OF_SLEEPERS: &[u8] = &[
 
 const WOKEN: &[u16] = &[1, 2, 1];
 
-// With two processors, 3 is the timer as it wakes thread 1, and 4 as it wakes thread 2. The history has 3 for both, and
-// the threads beside it.
+// With two processors, 3 is the timer when it wakes thread 1, and 4 when it wakes thread 2. The history has 3 for both,
+// and the threads in a list of its own.
 #[test]
 fn sleepers_in_time(rt: HostRuntime) {
     let alloc = rt.alloc();

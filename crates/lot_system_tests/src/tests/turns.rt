@@ -4,7 +4,7 @@ ghost use Rattle.std.specs.Prelude.{◌≡◌};
 use super::same::{check_same, check_same_at};
 use super::{SPINNER, make_turns, opened, parsed};
 use lot_kept::Stack;
-use lot_machine::{Outcome, Reply, ThreadRef};
+use lot_machine::{Outcome, Reply};
 use lot_program::Program;
 use lot_script::Slice;
 use lot_system::{Answer, System, TurnFault, Work, slice_for};
@@ -18,11 +18,11 @@ enum Given {
     Nothing,
     /// The slice of the processor's work with this budget.
     WorkOf(u32, u32),
-    /// The slice of the first script from its beginning, with this budget.
+    /// The slice of the first script from its first place, with this budget.
     Beginning(u32),
 }
 
-/// The result that a turn is to have.
+/// The expected result of a turn.
 #[derive(Clone, Copy)]
 enum Came {
     /// The number of the thread and of the ticket that funds it.
@@ -42,7 +42,7 @@ enum Came {
 /// A turn: its actor, the slice passed for it, and its result.
 type Row = (u32, Given, Came);
 
-/// The reply of a turn, or its fault, with the thread and the budget of the work if that made the slice stale.
+/// The reply of a turn, or its fault, with the thread and the budget of the work in a `Stale` fault.
 type Answered = Result<Reply, (&'static str, Option<(u32, u32)>)>;
 
 /// The slice of the work, with this budget.
@@ -67,7 +67,7 @@ fn first_work(rt: &impl Abort, program: &Program) -> Work {
     }
 }
 
-/// The slice that is given, if one is.
+/// The slice of a row, if it has one.
 fn slice_of<'a>(
     rt: &impl Abort,
     system: &System,
@@ -88,7 +88,7 @@ fn slice_of<'a>(
     }
 }
 
-/// What a turn came to. A stale one carries the actor's work.
+/// The result of a turn. A `Stale` fault carries the actor's work.
 fn found_of(system: &System, actor: u32, answered: Result<Answer, TurnFault>) -> Option<Answered> {
     match answered {
         Ok(answer) => Some(Ok(answer.reply)),
@@ -106,7 +106,7 @@ const ENDED: &str = "ended";
 
 const FULL: &str = "full";
 
-/// What a turn with this result comes to.
+/// The expected result, as a reply or a fault.
 fn wanted_of(came: Came) -> Answered {
     match came {
         Came::Funded(number) => Ok(Reply::Funded {
@@ -132,7 +132,7 @@ fn wanted_of(came: Came) -> Answered {
     }
 }
 
-/// Makes a turn, and returns what it came to.
+/// Makes a turn, and returns its result.
 fn turned(rt: &impl Abort, program: &Program, system: &mut System, row: Row) -> Option<Answered> {
     let (actor, given, _) = row;
     if actor > system.processors() {
@@ -143,8 +143,8 @@ fn turned(rt: &impl Abort, program: &Program, system: &mut System, row: Row) -> 
     found_of(system, actor, answered)
 }
 
-/// Makes a turn, compares its result, and returns whether it is to be made. The number of turns made so far shows
-/// which turn differs.
+/// Makes a turn, compares its result, and returns whether the row expects it to be made. The number of turns made so
+/// far tells which turn differs.
 fn check_turn(
     rt: &impl Abort,
     program: &Program,
@@ -164,7 +164,7 @@ fn check_made(rt: &impl Abort, system: &System, made: u32) {
     check_same(rt, &system.total().turns, &u64::from(made));
 }
 
-/// Makes the turns, and compares their results. Those that aren't made aren't in the history, and aren't counted.
+/// Makes the turns, and compares their results. Turns with a fault neither enter the history nor count.
 fn check_rows(rt: &impl Abort, program: &Program, system: &mut System, turns: &[Row]) {
     let mut made = 0u32;
     for turn in turns {
@@ -196,7 +196,7 @@ const FAULTS: &[Row] = &[
     (0, Given::Nothing, Came::Ended),
 ];
 
-// Stale comes before Ended and HistoryFull, and Ended before HistoryFull.
+// `Stale` comes before `Ended` and `HistoryFull`, and `Ended` before `HistoryFull`.
 #[test]
 fn faults_in_order(rt: HostRuntime) {
     check_turns(&rt, rt.alloc(), (SPINNER, 4), FAULTS)
@@ -235,8 +235,8 @@ const SLICES_OF_OTHERS: &[Row] = &[
     (3, Given::Beginning(100), Came::Stale(None)),
 ];
 
-// A slice of another script, of more or of less than is left, or of nothing is stale. One of another thread's that
-// has the same script, start and budget is the same slice.
+// A slice is stale if it is of another script, or of more or less than the budget left, or if there is none. A slice of
+// another thread with the same script, start and budget is the same slice.
 #[test]
 fn slices_of_others(rt: HostRuntime) {
     check_turns(&rt, rt.alloc(), (THREE_PROCESSORS, 9), SLICES_OF_OTHERS)
@@ -282,7 +282,7 @@ const TWICE_IN_FOUR: &[Row] = &[
     ),
 ];
 
-// A slice that was made isn't fresh any more: the work is after the lock then, and has one tick less.
+// A used slice is stale: the work is after the lock, with one tick less.
 #[test]
 fn slice_twice(rt: HostRuntime) {
     check_turns(&rt, rt.alloc(), (LOCKER, 3), TWICE_IN_THREE);
@@ -358,8 +358,7 @@ fn last_entry(rt: HostRuntime) {
     check_draws(&rt, &mut system)
 }
 
-/// One thread locks a mutex and yields, and the next one waits for it. By the seed each draw has the winner that is
-/// meant.
+/// One thread locks a mutex and yields, and the next one waits for it. The seed gives each draw its intended winner.
 const WAITING: &str = "lottery 1
 quantum 10
 seed 132
@@ -388,13 +387,11 @@ fn check_waiters(rt: &impl Abort, alloc: Global, program: &Program, system: &Sys
     check_same(rt, &waiters.len(), &0);
 }
 
-/// Compares owners, the ticks of a compensation, and a thread.
+/// Compares owners, and the ticks of a compensation.
 fn check_owners(rt: &impl Abort, system: &System) {
     let owners = (system.owner(1), system.owner(2));
     check_same(rt, &owners, &(Some(1), None));
-    check_same(rt, &system.compensation(1), &Some(4));
-    let meant = system.thread_meant(&ThreadRef::Numbered(3));
-    check_same(rt, &meant, &Some(3))
+    check_same(rt, &system.compensation(1), &Some(4))
 }
 
 #[test]
@@ -406,7 +403,7 @@ fn waiters_stand_in_order_of_waiting(rt: HostRuntime) {
     check_waiters(&rt, alloc, &program, &system)
 }
 
-// Thread 1 owns the mutex. It locked, computed for two ticks and yielded, which took four.
+// Thread 1 owns the mutex. It locked, computed for two ticks and yielded, four ticks in all.
 #[test]
 fn owners_and_compensations(rt: HostRuntime) {
     let alloc = rt.alloc();

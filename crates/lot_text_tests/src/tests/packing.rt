@@ -1,4 +1,4 @@
-//! Commands are kept in little memory, and are the same when they are read.
+//! Packed commands, which unpack to the same commands.
 use super::name;
 use super::same::{check_same, check_same_at};
 use lot_machine::{Command, CurrencyRef, Kind, Name, TargetRef, ThreadRef};
@@ -106,7 +106,7 @@ fn listed(alloc: Global, commands: &[Command]) -> Result<CommandList, AllocError
     Ok(list)
 }
 
-/// Compares the commands that are kept with these.
+/// Compares the packed commands with these.
 fn check_kept(rt: &impl Abort, kept: &Commands, wanted: &[Command]) {
     check_same(rt, &kept.len(), &wanted.len());
     for index in 0..kept.len() {
@@ -140,7 +140,7 @@ fn listed_in_the_end(rt: &impl Abort, alloc: Global, commands: &[Command]) -> Co
     list
 }
 
-// For runs in which one allocation is refused: a push that lacks memory adds no command, and the next push does.
+// For runs in which one allocation fails: a push that lacks memory adds no command, and the next push does.
 #[test]
 fn keeps_or_lacks_memory(rt: HostRuntime) {
     let commands = about_threads(&rt);

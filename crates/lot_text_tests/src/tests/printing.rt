@@ -1,4 +1,4 @@
-//! The texts of replies, listings, totals, histories and refused inputs. The expected ones are written by hand.
+//! The texts of replies, listings, totals, histories and refused inputs, with the expected ones written by hand.
 ghost use Rattle.std.specs.Prelude.{◌≡◌, ◌<◌, ◌^◌, false};
 
 use super::same::check_same_at;
@@ -27,7 +27,7 @@ fn check_ended(rt: &impl Abort, ended: Result<(), IoFault>, wanted: &str) {
     assert!(rt; ended.is_ok(), "{wanted}");
 }
 
-/// Checks the text written by a call that returned this.
+/// Checks the text written by a call with this result.
 fn check(rt: &impl Abort, writer: Watched<Vec<u8>>, ended: Result<(), IoFault>, wanted: &str) {
     check_ended(rt, ended, wanted);
     let written = writer.into_inner();
@@ -106,6 +106,10 @@ const REPLIES: &[PrintedReply<'static>] = &[
     },
     PrintedReply {
         reply: Reply::Done,
+        line: "1 done\n",
+    },
+    PrintedReply {
+        reply: Reply::Killed(3),
         line: "1 done\n",
     },
     PrintedReply {
@@ -266,7 +270,7 @@ const TRAPS: &[PrintedTrap<'static>] = &[
         line: "1 thread 1 ticks 2 exit\n",
     },
     PrintedTrap {
-        action: Action::Sleep,
+        action: Action::Sleep(()),
         outcome: Outcome::Slept,
         ends: false,
         line: "1 thread 1 ticks 2 sleep\n",
@@ -873,7 +877,7 @@ const LONG: Spans = Spans {
     since: None,
 };
 
-/// None.
+/// No waits.
 const NO_SPANS: Spans = Spans {
     count: 0,
     total: 0,
@@ -917,7 +921,7 @@ fn check_shares(rt: &impl Abort, alloc: Global, shares: ThreadShares, wanted: &s
     check(rt, writer, ended, fields);
 }
 
-// 2 of 3 ticks are 66.666%, and 1500000000000000000 is half of 3 * 10^18. 3 waits of 7 ticks in all are 2.333 on
+// 2 of 3 ticks are 66.666%, and 1500000000000000000 is half of 3 * 10 ^ 18. 3 waits of 7 ticks in all are 2.333 on
 // average, 5 of 12 are 2.4, and 18446744073709551615 / 4294967295 is 4294967297.
 #[test]
 fn prints_timed_totals(rt: HostRuntime) {
@@ -969,8 +973,8 @@ fn prints_timed_totals(rt: HostRuntime) {
     check_shares(&rt, rt.alloc(), shares, wanted, fields);
 }
 
-// The thread that had the number before has ended; this one hasn't. 666666666666666666 is a third of 2 * 10^18, rounded
-// down.
+// The thread that had the number before has ended; this one hasn't. 666666666666666666 is a third of 2 * 10 ^ 18,
+// rounded down.
 #[test]
 fn prints_lives(rt: HostRuntime) {
     let shares = ThreadShares {
@@ -1074,7 +1078,7 @@ fn prints_records(rt: HostRuntime) {
     check(&rt, writer, ended, "4096,thread2,4,18446744073709551615\n");
 }
 
-/// The spread of a figure that so many plays have.
+/// The spread of a figure that this many plays have.
 fn spread(plays: u64, sum: u128, least: u128, most: u128) -> Spread {
     Spread {
         plays,
@@ -1092,7 +1096,7 @@ const NO_FIGURE: Spread = Spread {
     most: 0,
 };
 
-/// Waits that a report doesn't tell.
+/// The figures of waits in a report that has none of them.
 const UNTOLD: SpanFigures = SpanFigures {
     count: NO_FIGURE,
     mean: NO_FIGURE,
@@ -1145,7 +1149,7 @@ fn of_schedule(rt: &impl Abort) -> Figures {
     }
 }
 
-/// Those of a thread of a timed program, which had a trap refused in one play, and ended in one.
+/// The figures of a thread of a timed program, which had a trap refused in one play, and ended in one.
 fn of_timed(rt: &impl Abort) -> Figures {
     let mut figures = of_schedule(rt);
     figures.due = spread(3, 100000, 33333, 33334);
@@ -1159,7 +1163,7 @@ fn of_timed(rt: &impl Abort) -> Figures {
     figures
 }
 
-/// Those of a thread that waited for mutexes alone, had no trap refused, and never ended.
+/// The figures of a thread that waited only for mutexes, had no trap refused, and never ended.
 fn of_waiting(rt: &impl Abort) -> Figures {
     let mut figures = of_timed(rt);
     figures.ready = no_spans();
@@ -1170,7 +1174,7 @@ fn of_waiting(rt: &impl Abort) -> Figures {
     figures
 }
 
-/// Those of a currency.
+/// The figures of a currency.
 fn of_currency(rt: &impl Abort) -> Figures {
     Figures {
         name: name(rt, "g"),
@@ -1210,8 +1214,8 @@ fn check_figures(
     check(rt, writer, ended, fields);
 }
 
-// Of three plays the draws are 10 in all, 3.333 on average. The line of a schedule has no figures behind the share. Of
-// two plays the currency's share is 99.999% in all, 49.999% on average.
+// Of three plays the draws are 10 in all, 3.333 on average. The line of a schedule ends with the share. Of two plays
+// the currency's share is 99.999% in all, 49.999% on average.
 #[test]
 fn prints_figures(rt: HostRuntime) {
     let wanted =
@@ -1242,7 +1246,7 @@ fn prints_figures(rt: HostRuntime) {
 }
 
 // 2.333 and 0.5 are 2.833 in all: 1.416 on average over the two plays with such waits. 0, 0.5 and 1.5 are 0.666 on
-// average. There is no line for waits that no play had, for traps if none was refused, or for an end if there was none.
+// average. There is no line for waits that no play had, for traps without a refused one, or for lives without an end.
 #[test]
 fn prints_timed_figures(rt: HostRuntime) {
     let wanted =

@@ -1,28 +1,29 @@
-//! Worked scripts. What is expected follows from their lists, unrolled by hand.
+//! Worked scripts. The expected values follow from their lists, unrolled by hand.
 use super::same::{check_same, check_same_at};
+use lot_machine::ScriptTrap;
 use lot_script::{Place, Script, ScriptBuilder};
-use lot_simulation::{InputRefusal, MutexTrap, PortTrap, ScriptLine, ScriptTrap};
+use lot_simulation::{InputRefusal, ScriptLine};
 use std::alloc::Global;
 use std::process::Abort;
 
 // Traps at ports and mutexes of these numbers.
-const REPLY: ScriptTrap = ScriptTrap::Reply;
+const REPLY: ScriptTrap = ScriptTrap::Reply(());
 
 const YIELD: ScriptTrap = ScriptTrap::Yield;
 
-const CALL_1: ScriptTrap = ScriptTrap::AtPort(PortTrap::Call, 1);
+const CALL_1: ScriptTrap = ScriptTrap::Call(1, ());
 
-const LOCK_1: ScriptTrap = ScriptTrap::OnMutex(MutexTrap::Lock, 1);
+const LOCK_1: ScriptTrap = ScriptTrap::Lock(1);
 
-const UNLOCK_1: ScriptTrap = ScriptTrap::OnMutex(MutexTrap::Unlock, 1);
+const UNLOCK_1: ScriptTrap = ScriptTrap::Unlock(1, ());
 
-const RECEIVE_2: ScriptTrap = ScriptTrap::AtPort(PortTrap::Receive, 2);
+const RECEIVE_2: ScriptTrap = ScriptTrap::Receive(2);
 
-const SERVE_2: ScriptTrap = ScriptTrap::AtPort(PortTrap::Serve, 2);
+const SERVE_2: ScriptTrap = ScriptTrap::Serve(2, ());
 
 const EXIT: Option<ScriptTrap> = Some(ScriptTrap::Exit);
 
-const CALL_3: ScriptTrap = ScriptTrap::AtPort(PortTrap::Call, 3);
+const CALL_3: ScriptTrap = ScriptTrap::Call(3, ());
 
 /// Adds a line that can come next.
 fn add_line(rt: &impl Abort, builder: &mut ScriptBuilder, line: ScriptLine) {
@@ -53,7 +54,7 @@ fn script_of(rt: &impl Abort, alloc: Global, lines: &[ScriptLine]) -> Script {
     finished(rt, builder)
 }
 
-/// Of a slice the budget, the ticks, the trap and the accumulator at its end.
+/// The budget, the ticks and the trap of a slice, and the accumulator at its end.
 type Sliced = (u32, u32, Option<ScriptTrap>, u32);
 
 /// Checks the slice of the script from this place, and returns its end. A failed comparison shows the budget.
@@ -195,7 +196,7 @@ const EIGHT_LOOPS_SLICES: &[Sliced] = &[
     (1000, 1000, None, 0),
 ];
 
-/// A script of eight loops with these rounds round this line, if there is one.
+/// A script of eight nested loops with this many rounds each, around this line, if there is one.
 fn eight_loops_of(rt: &impl Abort, alloc: Global, rounds: u32, line: Option<ScriptLine>) -> Script {
     let mut builder = ScriptBuilder::new(alloc);
     add_lines(rt, &mut builder, ScriptLine::Loop(rounds), 8);
@@ -213,7 +214,7 @@ fn eight_loops(rt: HostRuntime) {
     slices_in_turn(&rt, &script, EIGHT_LOOPS_SLICES);
 }
 
-// The innermost has 3 marks, and each loop round k marks has 1 + 2 * (k + 1).
+// The innermost has 3 marks, and a loop around k marks has 1 + 2 * (k + 1).
 const WHOLE_LOOPS: &[Sliced] = &[(1000, 765, EXIT, 0)];
 
 const ENDS_OF_LOOPS: &[Sliced] = &[(764, 764, None, 0), (1, 1, None, 0), (1, 0, EXIT, 0)];
@@ -225,7 +226,7 @@ fn ends_of_eight_loops(rt: HostRuntime) {
     slices_in_turn(&rt, &script, ENDS_OF_LOOPS);
 }
 
-/// Checks that the line can't come next, and why.
+/// Checks that the line can't come next, and its refusal.
 fn check_refused(
     rt: &impl Abort,
     builder: &ScriptBuilder,
@@ -235,7 +236,7 @@ fn check_refused(
     check_same_at(rt, &line, &builder.check(line), &Err(refusal));
 }
 
-/// Lines that can't come first, and why.
+/// Lines that can't come first, with their refusals.
 const REFUSED: &[(ScriptLine, InputRefusal)] = &[
     (ScriptLine::Compute(0), InputRefusal::BadNumber),
     (ScriptLine::Loop(0), InputRefusal::BadNumber),
@@ -299,8 +300,8 @@ fn places_in_other_scripts(rt: HostRuntime) {
     check_places(&rt, &script, &fewer, &other);
 }
 
-/// Of a slice with budget 1: whether it is of this copy of its script, its budget, whether it starts at the beginning,
-/// and whether it ends there.
+/// The parts of a slice with budget 1: whether it is of this copy of its script, its budget, whether it starts at the
+/// first place, and whether it ends there.
 fn parts_of_a_slice(script: &Script, copy: &Script) -> (bool, u32, bool, bool) {
     let slice = script.slice(script.start(), 1);
     let is_of_copy = slice.script().is_same(copy);
@@ -328,7 +329,7 @@ fn are_same_places(script: &Script, copy: &Script) -> (bool, bool) {
     (start.is_same(&copy.start()), slice.end().is_same(start))
 }
 
-/// The accumulator of a slice's end to which 9 was handed.
+/// The accumulator at a slice's end, after a delivery of 9.
 fn handed_accumulator(script: &Script) -> u32 {
     let mut handed = script.slice(script.start(), 1).end().copied();
     handed.set_accumulator(9);
@@ -339,7 +340,7 @@ const YIELD_AFTER_3: &[ScriptLine] = &[ScriptLine::Set(3), ScriptLine::Trap(YIEL
 
 const REPLY_AFTER_3: &[ScriptLine] = &[ScriptLine::Set(3), ScriptLine::Trap(REPLY)];
 
-/// Checks what is the same of a script and its copy, and not of the other script.
+/// Compares a script with its copy, which is the same, and with the other script, which isn't.
 fn check_copy(rt: &impl Abort, script: &Script, other: &Script, copy: &Script) {
     let found = (copy.is_same(script), copy.is_same(other));
     check_same(rt, &found, &(true, false));

@@ -1,4 +1,4 @@
--- The running sum is that of the weights passed, and at most the number; the place that is sought is not among those.
+-- The running sum is that of the weights passed, and at most the number; the index sought is not among those passed.
 use Rattle.lot_c.proofs.Common.{first_above, map, running_sums, sum, wide_meant, ◌+◌, ◌≡◌, ◌≤◌}
 use Rattle.std.proofs.Common.{drop}
 use Rattle.lot_c.proofs.lottery.first_above.Given as goal

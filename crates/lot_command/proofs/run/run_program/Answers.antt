@@ -1,4 +1,4 @@
--- The free run was written; if the writer fails, a beginning of it.
+-- The output of the free run was written, or a beginning of it if the writer fails.
 use Rattle.lot_command.proofs.Common.{Appends, Begins, EndsRun, Err, IoFault, Ok, Play, Program, Setting, ap, end_text, subst, sym}
 use Rattle.lot_command.proofs.run.run_program.Goals as goal
 

@@ -1,4 +1,4 @@
--- The seed is that of as many steps as were taken, and one of the generator's values.
+-- The seed is that of the steps taken, and one of the generator's values.
 use Rattle.lot_draw.proofs.Common.{IsBetween, mixed_seed, ◌≡◌}
 use Rattle.lot_draw.proofs.generator.mixed_seed.Given as goal
 

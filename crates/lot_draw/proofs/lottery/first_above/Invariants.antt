@@ -1,4 +1,4 @@
--- The running sum is that of the weights passed, and at most the number; the place that is sought is not among those.
+-- The running sum is that of the weights passed, and at most the number; the index sought is not among those passed.
 use Rattle.lot_draw.proofs.Common.{drop, first_above, running_sums, sum, ◌+◌, ◌≡◌, ◌≤◌}
 use Rattle.lot_draw.proofs.lottery.first_above.Given as goal
 

@@ -1,4 +1,4 @@
--- The thread that was made is after all the others, or in the place of a removed one.
+-- The new thread comes after all the others, or in the place of a removed one.
 use Rattle.lot_engine.proofs.Lemmas.{MakesIn, MakesNone, Sizes, Thread, ap, arith, at-lengths, free_threads, is_some, made-there, new-at, next-few, next-same, next-within, none-at, option_map, subst, sym, ◌∙◌}
 use Rattle.lot_engine.proofs.places.follow_command.Goals as goal
 

@@ -14,7 +14,7 @@ returns-clause-text g c made is =
     let puts = Put (g.W.Write.contents c.args.writer.now.inner) (g.W.Write.contents c.put_turn.new.writer.inner) c.args.page.now c.put_turn.new.page c.put_turn.new.writer.failed c.put_turn.result in
     let lots = won_lines h.style h.unit h.actor c.args.lots.now.lots c.args.lots.now.loans (won_in turn.event turn.reply) in
     let funding = λ (s : Seen). funding_in c.args.detail (won_in turn.event turn.reply) h.style h.unit h.actor (world_of s).state in
-    let told = subst (λ (s : Seen). puts (funding s ++ (lots ++ (front h.style ++ (decimal h.actor ++ (codes " " ++ reply_text h.style (world_of s).state turn.event turn.reply)))))) c.note.ensures.same c.put_turn.ensures.text in
+    let told = subst (λ (s : Seen). puts (funding s ++ (lots ++ (front h.style ++ (decimal h.actor ++ (codes " " ++ reply_text h.style (world_of s).state turn.event turn.reply)))))) c.note_turn.ensures.same c.put_turn.ensures.text in
     let text = answered-text c.args.system.now turn c.args.lots.now made is c.if-turn.false c.args.detail h.style h.actor h.unit (its.style ∙ c.style_of.ensures) (its.actor ∙ c.printed_actor-actor.ensures) its.unit in
     subst puts text told
 

@@ -1,4 +1,4 @@
--- The report is written after what explains the turns.
+-- The report is written after the explanation of the turns.
 use Rattle.lot_explain.proofs.Lemmas.{Err, ends-well, err-is, explained_turns, fails-first, fails-last, last_report, program-texts, program_turns, ◌≡◌}
 use Rattle.lot_explain.proofs.explaining.explain_program.Goals as goal
 

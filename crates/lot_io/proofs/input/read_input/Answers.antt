@@ -1,4 +1,4 @@
--- What was read so far, and what is read with the next piece.
+-- The bytes read so far, and those of the next piece.
 use Rattle.std.proofs.Common.{◌≤◌, arith}
 use Rattle.lot_io.proofs.ReadingFacts.{consumes-none, consumes-more, length-more, within-room}
 use Rattle.lot_io.proofs.input.read_input.Goals as goal

@@ -1,4 +1,4 @@
--- Those counted and those among the tickets that are left are all.
+-- The count so far and the tickets left make up all.
 use Rattle.lot_kernel.proofs.Lemmas.{count_after, issued_in, length, ◌+◌, ◌==◌, ◌≡◌, ◌≤◌}
 use Rattle.lot_kernel.proofs.counts.count_issued.Given as goal
 

@@ -28,7 +28,7 @@ fn make_nodes(rt: &impl Abort, graph: &mut Graph) {
     }
 }
 
-/// Currencies, and what a ticket of each funds.
+/// Currencies, and the target of a ticket of each.
 const LINKS: &[(u32, Target)] = &[
     (BASE, Target::Currency(ALICE)),
     (BASE, Target::Currency(BOB)),
@@ -83,7 +83,7 @@ fn has_found(rt: &impl Abort, above: &Above, graph: &Graph, currency: u32) -> bo
     above.has(currency)
 }
 
-/// Whether a search finds the currency above the second node, after it searched from the first.
+/// Whether a search finds the currency above the second node, after a search from the first.
 fn finds(
     rt: &impl Abort,
     alloc: Global,

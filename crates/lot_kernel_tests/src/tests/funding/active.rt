@@ -1,4 +1,4 @@
-//! A caller that holds a graph and its activity together, and worked rows.
+//! A graph together with its activity, and worked rows.
 use super::required::{
     check_issue, check_may_lend, check_may_own, check_mutex, check_room, check_thread,
 };
@@ -130,7 +130,7 @@ impl Kept {
         }
     }
 
-    /// Whether the last call switched this many nodes, and changed the amount alone of this many.
+    /// Whether the last call switched this many nodes, and changed only the amount of this many.
     fn has_changed(&self, switched: usize, adjusted: usize) -> bool {
         self.active.switched().count() == switched && self.active.adjusted().count() == adjusted
     }
@@ -158,7 +158,7 @@ impl Kept {
         }
     }
 
-    /// Takes a step, and returns whether it comes out as the row says.
+    /// Takes a step, and returns whether its result is the row's.
     fn play(&mut self, rt: &impl Abort, step: Step) -> bool {
         match step {
             Step::IsAmount(currency, amount) => self.amount(rt, currency) == amount,
@@ -173,7 +173,7 @@ impl Kept {
         }
     }
 
-    /// Takes a step that comes out in one way.
+    /// Takes a step that has only one result.
     fn change(&mut self, rt: &impl Abort, step: Step) {
         match step {
             Step::Funding(currency, amount, target) => self.funding(rt, currency, amount, target),
@@ -189,7 +189,7 @@ impl Kept {
     }
 }
 
-/// A step of a row: a change, or what must then be so.
+/// A step of a row: a change, or a fact that must hold.
 #[derive(Clone, Copy)]
 enum Step {
     Funding(u32, u32, Target),
@@ -341,7 +341,7 @@ const FUNDED_BEFORE: &[Step] = &[
     Step::IsAmount(0, 8),
 ];
 
-/// A ticket that is funded while its target is inactive has no part in any amount until the target wakes.
+/// A ticket whose target is inactive counts in no amount until the target wakes.
 #[test]
 fn funded_before_it_wakes(rt: HostRuntime) {
     play(&rt, rt.alloc(), 2, 1, FUNDED_BEFORE)
@@ -369,7 +369,7 @@ const ELSEWHERE: &[Step] = &[
     Step::HavePassed(8),
 ];
 
-/// A change passes on the edges into the nodes that it switches, each once, and no edge elsewhere.
+/// A change spreads along the edges into the nodes that it switches, once along each, and along no other edge.
 #[test]
 fn edges_elsewhere_stay(rt: HostRuntime) {
     play(&rt, rt.alloc(), 3, 1, ELSEWHERE)
@@ -415,7 +415,7 @@ const CALL: &[Step] = &[
     Step::IsBacked(1, true),
 ];
 
-/// A client calls a server: what funds the client stays active while the server runs.
+/// A client calls a server: the client's tickets stay active while the server runs.
 #[test]
 fn a_call(rt: HostRuntime) {
     play(&rt, rt.alloc(), 2, 0, CALL)

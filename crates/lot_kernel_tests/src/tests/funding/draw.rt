@@ -38,7 +38,7 @@ impl Model for Room {
     } };
 }
 
-/// Ends the test unless a compensation is for at least one tick.
+/// Ends the test unless a compensation is at least one tick.
 fn check_ticks(rt: &impl Abort, compensation: Option<u32>)
     ensures { IfSome compensation (λ used. 0 < used) }
 {
@@ -104,7 +104,7 @@ impl Room {
         self.put_target(rt, made + 1, target);
     }
 
-    /// Makes a ticket fund a target in place of nothing.
+    /// Gives a ticket without a target this target.
     fn put_target(&mut self, rt: &impl Abort, ticket: u32, target: Target) {
         assert!(rt; may_fund(&mut self.graph, ticket, target));
         let found = self.graph.graph().ticket(ticket).expect(rt, "a ticket");
@@ -112,7 +112,7 @@ impl Room {
             .apply(GraphChange::PutTicket(ticket, Ticket { target, ..found }));
     }
 
-    /// Takes a ticket from what it funds.
+    /// Clears a ticket's target.
     fn unfund(&mut self, rt: &impl Abort, ticket: u32) {
         let found = self.graph.graph().ticket(ticket).expect(rt, "a ticket");
         assert!(rt; found.target != Target::Unfunded);
@@ -123,7 +123,7 @@ impl Room {
         self.graph.apply(GraphChange::PutTicket(ticket, unfunded));
     }
 
-    /// A draw, with the counts of what it read and visited.
+    /// A draw, with the counts of its reads and visits.
     fn draw(&mut self, d: u128) -> (Option<Winner>, u64, u64) {
         let reads = self.graph.reads();
         let visits = self.queue.visits();
@@ -149,7 +149,7 @@ fn small_limits() -> Option<Limits> {
 /// A thread that wins a draw, its number, and the total.
 type Won = (u32, u128, u128);
 
-/// A step of a row: a change, or a draw and what must come of it.
+/// A step of a row: a change, or a draw and its result.
 #[derive(Clone, Copy)]
 enum Step {
     /// A new thread, which is live and competes.
@@ -290,8 +290,7 @@ const FUNDED_BETWEEN: &[Step] = &[
     Step::Reads(149, (3, 149, 150), 5, 4),
 ];
 
-// A ticket that is made and funds the currency reads nothing by itself; the next draw reads the edges into what got
-// stale.
+// Making a ticket that funds the currency reads nothing; the next draw reads the edges into the stale nodes.
 #[test]
 fn funded_between_draws(rt: HostRuntime) {
     play_thirds(&rt, rt.alloc(), FUNDED_BETWEEN)
@@ -310,7 +309,7 @@ const UPSTREAM: &[Step] = &[
     Step::Wins(59, (1, 59, 60)),
 ];
 
-// A ticket two currencies upstream of the thread goes: only the thread's other funding still counts.
+// A ticket two currencies upstream of the thread loses its target: only the thread's other funding still counts.
 #[test]
 fn unfunded_upstream(rt: HostRuntime) {
     play(&rt, rt.alloc(), small_limits(), UPSTREAM)
@@ -327,7 +326,7 @@ const RUNNING: &[Step] = &[
     Step::Wins(40, (2, 7, 33)),
 ];
 
-// A thread that runs is worth what it was, and only the others are drawn.
+// A thread that runs keeps its value, and draws are among the others.
 #[test]
 fn leaves_out_who_runs(rt: HostRuntime) {
     play_thirds(&rt, rt.alloc(), RUNNING)
@@ -348,13 +347,13 @@ const COMPENSATED: &[Step] = &[
     Step::Wins(799, (2, 799, 800)),
 ];
 
-// Quantum 100: a thread that used 20 ticks of it weighs five times what it is worth.
+// Quantum 100: a thread that used 20 ticks of it weighs five times its value.
 #[test]
 fn compensates(rt: HostRuntime) {
     play(&rt, rt.alloc(), small_limits(), COMPENSATED)
 }
 
-/// A room of 1000 threads, each of which a ticket of 1 funds.
+/// A room of 1000 threads, each funded by a ticket of 1.
 fn thousand(rt: &impl Abort, alloc: Global) -> Room {
     let limits = Limits::new(Sizes {
         tickets: 1000,
@@ -369,7 +368,7 @@ fn thousand(rt: &impl Abort, alloc: Global) -> Room {
     room
 }
 
-/// Draws a number below 1000, of which the first draw alone reads edges.
+/// Draws a number below 1000. Only the first draw reads edges.
 fn check_thousandth(rt: &impl Abort, room: &mut Room, d: u32)
     requires { d < 1000 }
 {

@@ -157,7 +157,7 @@ fn join(rt: &impl Abort, graph: &mut Graph, sides: (u32, u32), bottom: u32) {
     link(rt, graph, sides.1, 1, Target::Currency(bottom));
 }
 
-/// Two ways from a currency to a new one, which it returns.
+/// Two paths from a currency to a new one, which it returns.
 fn diamond(rt: &impl Abort, graph: &mut Graph, top: u32) -> u32 {
     let left = make_currency(rt, graph);
     let right = make_currency(rt, graph);
@@ -247,7 +247,6 @@ fn edges_out_of(rt: &impl Abort, graph: &Graph, node: Node) -> usize {
     graph.edges_out_of(node).count()
 }
 
-/// The issuer of a ticket.
 fn issuer_of(rt: &impl Abort, graph: &Graph, ticket: u32) -> Option<u32> {
     assert!(rt; 0 < ticket && ticket <= graph.layout().tickets);
     graph.issuer_of(ticket)
@@ -279,7 +278,7 @@ fn is_owner(graph: &Graph, mutex: u32, owner: u32) -> bool {
     }
 }
 
-/// A step of a row: a change, or what the graph must then show.
+/// A step of a row: a change, or a fact that the graph must show.
 #[derive(Clone, Copy)]
 enum Step {
     AddThread,
@@ -293,7 +292,7 @@ enum Step {
     /// A ticket that funds nothing, and the amount that it gets.
     SetAmount(u32, u32),
     Fund(u32, Target),
-    /// The ticket would make a cycle if it funded this, and doesn't fund it.
+    /// The ticket would make a cycle with this target, so it gets none.
     FundCycle(u32, Target),
     Unfund(u32),
     /// A thread lends to another, or doesn't, since it would make a cycle.
@@ -367,7 +366,7 @@ fn shows(rt: &impl Abort, graph: &Graph, fact: Fact) -> bool {
     }
 }
 
-/// Takes a step, and returns whether it comes out as the row says.
+/// Takes a step, and returns whether its result is the row's.
 fn take(rt: &impl Abort, graph: &mut Graph, step: Step) -> bool {
     match step {
         Step::MakeCurrency(number) => make_currency(rt, graph) == number,
@@ -388,7 +387,7 @@ fn take(rt: &impl Abort, graph: &mut Graph, step: Step) -> bool {
     }
 }
 
-/// Takes a step that comes out in one way.
+/// Takes a step that has only one result.
 fn change(rt: &impl Abort, graph: &mut Graph, step: Step) {
     match step {
         Step::AddThread => add_thread(rt, graph),

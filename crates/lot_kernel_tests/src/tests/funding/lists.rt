@@ -11,7 +11,7 @@ const LISTS: usize = 4;
 
 const NODES: usize = 9;
 
-/// The lists as a caller would write them with vectors.
+/// The lists as vectors.
 struct Plain {
     lists: Vec<Vec<usize>>,
 }
@@ -92,14 +92,14 @@ fn check_home(rt: &impl Abort, lists: &Lists, list: usize, node: usize)
     check_same(rt, &home, &list);
 }
 
-/// The nodes beside one agree with its place in the vector.
+/// The neighbours of a node agree with its index in the vector.
 fn compare_node(rt: &impl Abort, lists: &Lists, nodes: &[usize], place: usize)
     requires place { place < length nodes.now }
     requires listed { IsListed lists.now (slice_index nodes.now place) }
 {
     let node = nodes[place];
     check_same(rt, &lists.next(node), &nodes.get(place + 1).copied());
-    // Before the first place this is the greatest number, at which no slice has a place.
+    // Before index 0 this is the largest number, an index of no slice.
     let before = place.wrapping_sub(1);
     check_same(rt, &lists.prev(node), &nodes.get(before).copied());
 }
@@ -139,7 +139,7 @@ fn compare(rt: &impl Abort, lists: &Lists, plain: &Plain)
     }
 }
 
-/// A call with the list and the node that this number gives, after which the lists are compared.
+/// A call with the list and the node that this number picks, after which the lists are compared.
 fn turn(rt: &impl Abort, lists: &mut Lists, plain: &mut Plain, random: u64)
     requires all_lists { length lists.old.lists ≡ LISTS }
     requires all_nodes { lists.old.nodes ≡ NODES }

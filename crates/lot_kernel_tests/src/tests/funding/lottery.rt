@@ -6,7 +6,7 @@ use std::process::Abort;
 
 const TICKETS: &[u128] = &[10, 2, 5, 1, 2];
 
-/// Drawn numbers, and the place and the number of 20 of the holder of each.
+/// Drawn numbers, with the holder's index and the number of 20.
 const HOLDERS: &[(u128, usize, u128)] = &[
     (9, 0, 9),
     (10, 1, 10),
@@ -51,7 +51,7 @@ const WEIGHTS: &[(u64, Option<u32>, u128)] = &[
     (7, Some(3), 233),
     (400, Some(99), 404),
     (400, Some(1), 40000),
-    // 400 * 100 / 4294967295 is below 1, and what is worth something weighs at least 1.
+    // 400 * 100 / 4294967295 is below 1, and a value above 0 weighs at least 1.
     (400, Some(4294967295), 1),
     (0, Some(4294967295), 0),
 ];

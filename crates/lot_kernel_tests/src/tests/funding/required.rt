@@ -1,4 +1,4 @@
-//! What calls of a graph require, tested: most of these end the test where it doesn't hold.
+//! Tests of the premises of a graph's calls. Most of these end the test where the premise doesn't hold.
 ghost use Rattle.std.specs.Prelude.{◌≡◌, ◌<◌, ◌≤◌, None, Some, IsTrue, length};
 ghost use Rattle.lot_machine.specs.declared.funding.Lend.TheVariants.{Nobody};
 ghost use Rattle.lot_machine.specs.declared.funding.Node.TheVariants.{Thread as ThreadNode, Mutex as MutexNode};
@@ -54,7 +54,7 @@ pub(super) fn check_lends_nothing(rt: &impl Abort, graph: &Graph, thread: u32)
     assert!(rt; matches!(graph.lend_of(thread), Some(Lend::Nobody)));
 }
 
-/// Whether a thread may lend this way.
+/// Whether a thread may have this lend.
 pub(super) fn may_lend(graph: &mut Graph, thread: u32, lend: Lend) -> bool
     requires thread { 0 < thread }
     requires within { thread ≤ graph.old.thread_limit }
@@ -73,7 +73,7 @@ pub(super) fn may_lend(graph: &mut Graph, thread: u32, lend: Lend) -> bool
     }
 }
 
-/// Ends the test unless there is such a thread, which lends to nobody and may lend this way.
+/// Ends the test unless there is such a thread, which lends to nobody and may have this lend.
 pub(super) fn check_may_lend(rt: &impl Abort, graph: &mut Graph, thread: u32, lend: Lend)
     ensures nobody { at_number graph.new.funding.lends thread ≡ Some Nobody }
     ensures borrower { IsBorrower graph.new.funding lend }

@@ -1,4 +1,4 @@
-//! Weights that are put into a tree of partial sums, and the places that draws find there.
+//! Weights in a tree of partial sums, and the places that draws find there.
 use crate::tests::same::{check_same, check_same_at};
 use lot_tree::SumTree;
 use std::alloc::Global;
@@ -7,7 +7,7 @@ use std::process::Abort;
 /// Half of the limit of a total.
 const HALF_LIMIT: u128 = 1 << 111;
 
-/// Puts the weight `w` at the place `i`, after the tests that `set` leaves to its caller.
+/// Sets the weight `w` at the place `i`, after the tests that `set` leaves to its caller.
 fn put(rt: &impl Abort, tree: &mut SumTree, i: usize, w: u128) {
     assert!(rt; i < tree.len());
     assert!(rt; tree.total() < HALF_LIMIT);
@@ -37,7 +37,7 @@ fn draw(rt: &impl Abort, tree: &SumTree, d: u128) -> (usize, u64) {
     (place, visits)
 }
 
-/// The place where a walk over the weights finds `d` to be passed.
+/// The place at which the running sum of a walk over the weights passes `d`.
 fn walk(weights: &[u128], d: u128) -> usize {
     let mut sum: u128 = 0;
     for (i, w) in weights.iter().enumerate() {
@@ -49,7 +49,7 @@ fn walk(weights: &[u128], d: u128) -> usize {
     weights.len()
 }
 
-/// The next number of a fixed series that looks like chance.
+/// The next number of a fixed pseudo-random series.
 fn next_number(state: &mut u64) -> u64 {
     *state = state
         .wrapping_mul(6364136223846793005)
@@ -104,7 +104,7 @@ fn draws_by_running_sums(rt: HostRuntime) {
     check_by_sums(&rt, &tree);
 }
 
-/// Puts other weights at two places.
+/// Sets other weights at two places.
 fn put_others(rt: &impl Abort, tree: &mut SumTree) {
     put(rt, tree, 1, 0);
     put(rt, tree, 4, 7);
@@ -194,7 +194,7 @@ fn reads_a_sum_for_each_digit_at_most(rt: HostRuntime) {
     }
 }
 
-/// Draws after this many reads, and checks that there are then as many as a number can count.
+/// Draws after this many reads, and checks that the count of reads is the largest number.
 fn check_greatest(rt: &impl Abort, tree: &SumTree, reads: u64) {
     assert!(rt; tree.total() > 9);
     let mut visits = reads;
@@ -205,12 +205,12 @@ fn check_greatest(rt: &impl Abort, tree: &SumTree, reads: u64) {
 #[test]
 fn counts_on_to_the_greatest_number(rt: HostRuntime) {
     let tree = tree_of(&rt, rt.alloc(), WEIGHTS);
-    // One more read reaches the greatest number, and a read after it doesn't pass it.
+    // One more read reaches the largest number, and a read after it doesn't pass it.
     check_greatest(&rt, &tree, u64::MAX - 1);
     check_greatest(&rt, &tree, u64::MAX);
 }
 
-/// Puts a weight in both, and draws.
+/// Sets a weight in both, and draws.
 fn check_walk(rt: &impl Abort, tree: &mut SumTree, weights: &mut [u128], state: &mut u64) {
     assert!(rt; weights.len() > 0);
     let i = next_number(state) as usize % weights.len();

@@ -1,4 +1,4 @@
-//! Worked rows over a graph with what everything is worth.
+//! Worked rows over a graph with all values.
 ghost use Rattle.std.specs.Prelude.{◌≡◌, ◌<◌, ◌≤◌, IfOk, IsTrue};
 ghost use Rattle.lot_graph.specs.Graphs.{IsThread};
 ghost use Rattle.lot_graph.specs.Places.{layout_of};
@@ -38,7 +38,7 @@ fn small_graph(rt: &impl Abort, alloc: Global) -> Result<Graph, Fail>
     Ok(Graph::new(alloc, &limits)?)
 }
 
-/// Touches one of two threads, and checks that it alone is stale then.
+/// Touches one of two threads, and checks that it is the only stale node.
 fn check_touch(rt: &impl Abort, graph: &Graph, values: &mut Values)
     requires layout { values.old.layout ≡ layout_of graph.now }
     requires threads { graph.now.thread_limit ≡ 2 }
@@ -94,14 +94,14 @@ fn fund(rt: &impl Abort, graph: &mut ValuedGraph, currency: u32, amount: u32, ta
     put_target(rt, graph, made + 1, target);
 }
 
-/// Makes a ticket fund a target in place of nothing.
+/// Gives a ticket without a target this target.
 fn put_target(rt: &impl Abort, graph: &mut ValuedGraph, ticket: u32, target: Target) {
     assert!(rt; may_fund(graph, ticket, target));
     let found = graph.graph().ticket(ticket).expect(rt, "a ticket");
     graph.apply(GraphChange::PutTicket(ticket, Ticket { target, ..found }));
 }
 
-/// Takes a ticket from what it funds.
+/// Clears a ticket's target.
 fn unfund(rt: &impl Abort, graph: &mut ValuedGraph, ticket: u32) {
     let found = graph.graph().ticket(ticket).expect(rt, "a ticket");
     assert!(rt; found.target != Target::Unfunded);
@@ -112,7 +112,6 @@ fn unfund(rt: &impl Abort, graph: &mut ValuedGraph, ticket: u32) {
     graph.apply(GraphChange::PutTicket(ticket, unfunded));
 }
 
-/// Sets a ticket's amount.
 fn set_amount(rt: &impl Abort, graph: &mut ValuedGraph, ticket: u32, amount: u32) {
     let _before = graph.graph().ticket(ticket).expect(rt, "a ticket");
     assert!(rt; 0 < amount);
@@ -125,7 +124,7 @@ fn lend(rt: &impl Abort, graph: &mut ValuedGraph, thread: u32, lend: Lend) {
     put_lend(graph, thread, lend);
 }
 
-/// Makes a thread that is asleep lend this.
+/// Sets the lend of a sleeping thread.
 fn put_lend(graph: &mut ValuedGraph, thread: u32, lend: Lend)
     requires thread { IsThread graph.old.now.funding thread }
     requires lend { CanLend graph.old.now.funding thread lend }
@@ -137,7 +136,7 @@ fn put_lend(graph: &mut ValuedGraph, thread: u32, lend: Lend)
     });
 }
 
-/// Whether a thread may lend this way.
+/// Whether a thread may have this lend.
 fn may_lend(graph: &mut ValuedGraph, thread: u32, lend: Lend) -> bool
     requires thread { 0 < thread }
     requires within { thread ≤ graph.old.now.thread_limit }
@@ -175,7 +174,7 @@ fn remove_currency(rt: &impl Abort, graph: &mut ValuedGraph, currency: u32) {
     graph.apply(GraphChange::DropCurrency(currency));
 }
 
-/// Takes a ticket that funds something from it.
+/// Clears the target of a ticket that has one.
 fn take_back(rt: &impl Abort, graph: &mut ValuedGraph, ticket: u32) {
     assert!(rt; graph.graph().is_funding(ticket));
     unfund(rt, graph, ticket);
@@ -269,7 +268,7 @@ fn add_thread(rt: &impl Abort, graph: &mut ValuedGraph) {
     graph.add_thread();
 }
 
-/// Whether a node is worth this much, and isn't stale.
+/// Whether a node has this value, and isn't stale.
 fn is_worth(graph: &ValuedGraph, node: Node, value: u64) -> bool {
     let layout = graph.graph().layout();
     let within = match node {
@@ -280,7 +279,7 @@ fn is_worth(graph: &ValuedGraph, node: Node, value: u64) -> bool {
     within && !graph.is_stale(node) && graph.value_of(node) == value
 }
 
-/// Whether a ticket's issuer isn't stale, and one reading says that the ticket is worth this much.
+/// Whether a ticket's issuer isn't stale, and one read gives this value of the ticket.
 fn is_ticket_worth(graph: &mut ValuedGraph, number: u32, value: u64) -> bool {
     let Some(ticket) = graph.graph().ticket(number) else {
         return false;
@@ -373,7 +372,7 @@ const SHARED: &[Row<'static>] = &[
     },
 ];
 
-/// Base funds a currency, and it three threads. What isn't stale is not read again.
+/// Base funds a currency, and the currency three threads. No value that isn't stale is recomputed.
 #[test]
 fn shared_currency(rt: HostRuntime) {
     let mut graph = opening(&rt, rt.alloc(), 3, 1);
@@ -411,8 +410,8 @@ const INFLATION: &[Row<'static>] = &[
     },
 ];
 
-/// Two threads of a currency are worth half of it each. One ticket's amount triples, and they share as 1 to 3; base's
-/// ticket falls to a fifth, and so do they. The same amounts again make nothing stale.
+/// Two threads of a currency are worth half of it each. One ticket's amount triples, so they share as 3 to 1; base's
+/// ticket falls to a fifth, and so do both values. Setting the same amounts again makes nothing stale.
 #[test]
 fn inflation_and_deflation(rt: HostRuntime) {
     play_new(&rt, rt.alloc(), 2, 1, INFLATION)
@@ -440,7 +439,7 @@ const UNFUNDED: &[Row<'static>] = &[
 
 const ONE_FUNDED: &[(Node, u64)] = &[(Node::Thread(2), 20)];
 
-/// Sets the amount of the only ticket that the currency's value goes to.
+/// Sets the amount of the only ticket that gets the currency's value.
 fn set_the_only_amount(rt: &impl Abort, graph: &mut ValuedGraph) {
     set_amount(rt, graph, 3, 9);
     assert!(rt; !is_worth(graph, Node::Thread(2), 20), "it isn't stale");
@@ -457,8 +456,8 @@ fn fund_again(rt: &impl Abort, graph: &mut ValuedGraph) {
     check(rt, graph, BOTH_FUNDED);
 }
 
-/// A ticket that funds nothing gets another amount, and nothing is stale; then the only one that its currency's value
-/// goes to, whose thread is worth as much as before. Both amounts count when the first ticket funds a thread again.
+/// A ticket that funds nothing gets another amount, and nothing is stale. Then so does the only ticket that gets its
+/// currency's value, whose thread keeps its value. Both amounts count when the first ticket funds a thread again.
 #[test]
 fn amount_of_an_unfunded_ticket(rt: HostRuntime) {
     let mut graph = opening(&rt, rt.alloc(), 2, 1);
@@ -486,7 +485,7 @@ const UPSTREAM: &[Row<'static>] = &[
     },
 ];
 
-/// A ticket two currencies upstream of a thread goes: the thread is worth what it is funded with elsewhere.
+/// A ticket two currencies upstream of a thread loses its target: the thread is worth its other funding.
 #[test]
 fn unfunded_upstream(rt: HostRuntime) {
     play_new(&rt, rt.alloc(), 1, 2, UPSTREAM)
@@ -520,7 +519,7 @@ const LAST_AND_ANOTHER: &[Row<'static>] = &[
     },
 ];
 
-/// The last active edge out of a currency goes and another one comes, and nothing is settled between.
+/// The last active edge out of a currency goes and another one comes, with no settling in between.
 #[test]
 fn the_last_goes_and_another_comes(rt: HostRuntime) {
     play_new(&rt, rt.alloc(), 2, 1, LAST_AND_ANOTHER)
@@ -585,14 +584,14 @@ const STALE_BEFORE: &[Row<'static>] = &[
     },
 ];
 
-/// A thread becomes stale before a currency that funds it, and a ticket of base precedes that currency's. Each of the
-/// three edges into the thread is read once, and so are the two into the currency.
+/// A thread becomes stale before a currency that funds it, and a ticket of base precedes that currency's. Settling
+/// reads each of the three edges into the thread once, and so the two into the currency.
 #[test]
 fn stale_before_its_source(rt: HostRuntime) {
     play_new(&rt, rt.alloc(), 1, 1, STALE_BEFORE)
 }
 
-/// A hundred tickets of base fund a thread, and so does one of each of twenty currencies, which base funds.
+/// A hundred tickets of base fund a thread, and so does one ticket of each of twenty currencies, which base funds.
 fn fund_from_many(rt: &impl Abort, graph: &mut ValuedGraph) {
     for _ in 0..100 {
         fund(rt, graph, 0, 1, Target::Thread(1));
@@ -605,8 +604,8 @@ fn fund_from_many(rt: &impl Abort, graph: &mut ValuedGraph) {
 
 const MANY_WORTH: &[(Node, u64)] = &[(Node::Thread(1), 120)];
 
-/// A thread with a hundred tickets of base gets stale before each of twenty currencies that fund it too. The edges into
-/// it are read once, and not again for each of the currencies.
+/// A thread with a hundred tickets of base gets stale before each of twenty currencies that fund it too. Settling reads
+/// the edges into it once, and not again for each of the currencies.
 #[test]
 fn stale_before_many_sources(rt: HostRuntime) {
     let mut graph = opening(&rt, rt.alloc(), 1, 20);
@@ -636,7 +635,7 @@ fn make_ladder(rt: &impl Abort, graph: &mut ValuedGraph) {
 
 const LADDER_WORTH: &[(Node, u64)] = &[(Node::Thread(1), 2)];
 
-/// A ladder of 64 diamonds: as many ways lead through it as two to the 64. Each of its edges is read once.
+/// A ladder of 64 diamonds, with 2 ^ 64 paths through it. Settling reads each of its edges once.
 #[test]
 fn ladder_of_diamonds(rt: HostRuntime) {
     let mut graph = opening(&rt, rt.alloc(), 1, 192);

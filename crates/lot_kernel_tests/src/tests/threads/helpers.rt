@@ -37,7 +37,7 @@ pub(crate) fn stands(threads: &Threads, number: u32, status: Status) -> bool {
     }
 }
 
-/// Whether the thread exists, and the queues and the threads are equally many.
+/// Whether the thread exists, and there are as many threads in the queues as in the table.
 fn is_known(threads: &Threads, queues: &Queues, thread: ThreadNumber) -> bool
     ensures there { IsTrue result → IsThere queues.now.clients thread.number }
     ensures same { IsTrue result → length threads.now.records ≡ length queues.now.clients }
@@ -48,7 +48,7 @@ fn is_known(threads: &Threads, queues: &Queues, thread: ThreadNumber) -> bool
     0 < thread.number && thread.number <= queues.threads()
 }
 
-/// Whether the thread may wait at a port or for a mutex: it is known, and waits nowhere yet.
+/// Whether the thread may wait at a port or for a mutex: it is known, and in no queue.
 fn may_wait(threads: &Threads, queues: &Queues, thread: ThreadNumber) -> bool
     ensures there { IsTrue result → IsThere queues.now.clients thread.number }
     ensures nowhere { IsTrue result → IsNowhere queues.now thread.number }
@@ -103,7 +103,7 @@ pub(crate) fn check_live(rt: &impl Abort, threads: &Threads, thread: ThreadNumbe
     assert!(rt; threads.is_live(thread));
 }
 
-/// Threads of these limits, of which none is there yet.
+/// Threads of these limits, none of them made.
 pub(crate) fn threads_of(rt: &impl Abort, alloc: Global, limits: Option<Limits>) -> Threads {
     let limits = limits.expect(rt, "limits");
     Threads::new(alloc, &limits).expect(rt, "memory")
@@ -115,7 +115,7 @@ pub(crate) fn queues_of(rt: &impl Abort, alloc: Global, limits: &Limits) -> Queu
     made.expect(rt, "memory")
 }
 
-/// Shows which step of a row doesn't come out as the row says.
+/// Ends the test, and shows the step, unless its result is the row's.
 pub(crate) fn check_step(rt: &impl Abort, number: usize, is_so: bool) {
     assert!(rt; is_so, "step {number}");
 }
@@ -151,14 +151,14 @@ pub(crate) fn fund(
     put_target(rt, threads, made + 1, target);
 }
 
-/// Makes a ticket fund a target in place of nothing.
+/// Gives a ticket without a target this target.
 fn put_target(rt: &impl Abort, threads: &mut Threads, ticket: u32, target: Target) {
     assert!(rt; may_fund(threads, ticket, target));
     let found = threads.graph().ticket(ticket).expect(rt, "a ticket");
     threads.apply(GraphChange::PutTicket(ticket, Ticket { target, ..found }));
 }
 
-/// Whether a ticket may fund the target in place of nothing.
+/// Whether a ticket without a target may fund the target.
 fn may_fund(threads: &mut Threads, ticket: u32, target: Target) -> bool
     ensures unfunded { IsTrue result → target_of (funding_in threads.new) ticket ≡ Some Unfunded }
     ensures target { IsTrue result → CanTarget (funding_in threads.new) ticket Unfunded target }
@@ -173,7 +173,7 @@ fn may_fund(threads: &mut Threads, ticket: u32, target: Target) -> bool
     !threads.would_cycle(TicketNumber { number: ticket }, target)
 }
 
-/// Whether a ticket may fund the target, but for a cycle.
+/// Whether a ticket may fund the target, apart from cycles.
 fn is_target(graph: &Graph, target: Target) -> bool
     ensures { IsTrue result → IsTarget graph.now.funding target }
 {
@@ -184,7 +184,7 @@ fn is_target(graph: &Graph, target: Target) -> bool
     }
 }
 
-/// The thread that made a trap goes on, or gets the status that it leaves with.
+/// Lets the thread that made a trap go on, or sets the status with which it leaves.
 pub(crate) fn finish(rt: &impl Abort, threads: &mut Threads, thread: ThreadNumber, after: After) {
     let After::Leaves(status) = after else {
         return;

@@ -26,7 +26,7 @@ enum Step {
     Lock(u32, u32, Outcome),
     /// An unlock by a thread of a mutex, with the number of its lottery, and the edges that it reads.
     Unlock(u32, u32, u128, Outcome, u64),
-    /// The mutexes of a thread pass on.
+    /// Passes on the mutexes of a thread.
     PassAllOn(u32),
     /// The result of a draw.
     Wins(u128, Won),
@@ -34,7 +34,7 @@ enum Step {
     Owner(u32, Option<u32>),
 }
 
-/// Threads and queues, and room for a lottery and to list waiters.
+/// Threads and queues, with memory for a lottery and for a list of waiters.
 #[derive(Drop)]
 struct Scene {
     threads: Threads,
@@ -72,7 +72,7 @@ fn make_lock(
     lock(threads, queues, thread, MutexNumber { number: mutex })
 }
 
-/// Whether the threads in the mutex's queue wait for it. `waiters`, which needs room for all threads, lists them.
+/// Whether the threads in the mutex's queue wait for it. `waiters`, with capacity for all threads, lists them.
 fn are_queued(
     threads: &Threads,
     queues: &Queues,
@@ -132,7 +132,7 @@ fn make_unlock(
     (effect, read)
 }
 
-/// A lock, and whether it comes out so.
+/// Whether a lock has this outcome.
 fn locks(rt: &impl Abort, scene: &mut Scene, thread: u32, mutex: u32, outcome: Outcome) -> bool {
     let thread = ThreadNumber { number: thread };
     let effect = make_lock(rt, &mut scene.threads, &mut scene.queues, thread, mutex);
@@ -140,7 +140,7 @@ fn locks(rt: &impl Abort, scene: &mut Scene, thread: u32, mutex: u32, outcome: O
     effect.outcome == outcome
 }
 
-/// An unlock, and whether it comes out so and reads this many edges.
+/// Whether an unlock has this outcome and reads this many edges.
 fn unlocks(
     rt: &impl Abort,
     scene: &mut Scene,
@@ -167,7 +167,7 @@ fn pass_on_from(rt: &impl Abort, scene: &mut Scene, owner: u32) {
     pass_all_on(threads, queues, owner)
 }
 
-/// Takes a step, and returns whether it comes out as the row says.
+/// Takes a step, and returns whether its result is the row's.
 fn take(rt: &impl Abort, scene: &mut Scene, step: Step) -> bool {
     match step {
         Step::AddThread(amount) => {
@@ -195,17 +195,17 @@ fn take_all(rt: &impl Abort, scene: &mut Scene, steps: &[Step]) {
     }
 }
 
-/// Room for a lottery among this many threads.
+/// Memory for a lottery among this many threads.
 fn lottery_of(rt: &impl Abort, alloc: Global, threads: u32) -> Lottery {
     Lottery::new(alloc, threads).expect(rt, "memory")
 }
 
-/// Room to list this many waiters.
+/// Memory for a list of this many waiters.
 fn room_for(rt: &impl Abort, alloc: Global, threads: u32) -> Stack<u32> {
     Stack::new(alloc, threads as usize).expect(rt, "memory")
 }
 
-/// Takes the steps among threads of these limits, of which none is there yet.
+/// Takes the steps among threads of these limits, none of them made.
 fn play(rt: &impl Abort, alloc: Global, limits: Option<Limits>, steps: &[Step]) {
     let threads = threads_of(rt, alloc, limits);
     let limits = limits.expect(rt, "limits");
@@ -291,8 +291,8 @@ const LEFT: &[Step] = &[
     Step::Wins(110, (3, 110, 111)),
 ];
 
-// A mutex that is left behind passes to the thread that has waited longest, to which the other one lends then; a mutex
-// for which nobody waits is free.
+// The mutex of a killed owner passes to the thread that has waited longest, to which the other one then lends. Without
+// waiters it is free.
 #[test]
 fn mutexes_are_left(rt: HostRuntime) {
     play(&rt, rt.alloc(), small_limits(), LEFT)

@@ -22,7 +22,7 @@ enum Step {
     Reply(u32, u32, Option<Outcome>),
     /// A reply by a thread with a number, and a receipt at a port; `None` if it has no client.
     Serve(u32, u32, u32, Option<Outcome>),
-    /// The clients of a thread are released.
+    /// Releases the clients of a thread.
     Release(u32),
     /// The result of a draw.
     Wins(u128, Won),
@@ -31,7 +31,7 @@ enum Step {
     Gets(u32, Option<u32>),
 }
 
-/// The outcome of what a thread did at a port, after which it goes on or leaves.
+/// The outcome of a thread's trap at a port, after which it goes on or leaves.
 fn done(
     rt: &impl Abort,
     threads: &mut Threads,
@@ -132,7 +132,7 @@ fn make_trap(
     }
 }
 
-/// Whether this is delivered to the thread with this number when it next runs.
+/// Whether this number is delivered to the thread when it next runs.
 fn gets(threads: &Threads, thread: u32, number: Option<u32>) -> bool {
     match threads.record(ThreadNumber { number: thread }) {
         Some(found) => found.delivered == number,
@@ -140,7 +140,7 @@ fn gets(threads: &Threads, thread: u32, number: Option<u32>) -> bool {
     }
 }
 
-/// Takes a step, and returns whether it comes out as the row says.
+/// Takes a step, and returns whether its result is the row's.
 fn take(rt: &impl Abort, threads: &mut Threads, queues: &mut Queues, step: Step) -> bool {
     match step {
         Step::AddThread(amount) => {
@@ -170,7 +170,7 @@ fn take_all(rt: &impl Abort, threads: &mut Threads, queues: &mut Queues, steps: 
     }
 }
 
-/// Takes the steps among threads of these limits, of which none is there yet.
+/// Takes the steps among threads of these limits, none of them made.
 fn play(rt: &impl Abort, alloc: Global, limits: Option<Limits>, steps: &[Step]) {
     let mut threads = threads_of(rt, alloc, limits);
     let limits = limits.expect(rt, "limits");
@@ -204,7 +204,7 @@ const RECEIVED_FIRST: &[Step] = &[
     Step::Reply(2, 9, None),
 ];
 
-// A server that waits is Ready at the call, and is worth what its client has too until it replies.
+// A server that waits is Ready at the call, and has its client's value too until it replies.
 #[test]
 fn a_server_waits(rt: HostRuntime) {
     play(&rt, rt.alloc(), small_limits(), RECEIVED_FIRST)
@@ -270,7 +270,7 @@ const SERVED: &[Step] = &[
     Step::Wins(109, (3, 109, 110)),
 ];
 
-// A server replies and takes the next call, or waits, in one trap; with no client it does neither.
+// A server replies and takes the next call, or waits, in one trap; without a client it does neither.
 #[test]
 fn a_server_serves(rt: HostRuntime) {
     play(&rt, rt.alloc(), small_limits(), SERVED)
@@ -308,7 +308,7 @@ const RELEASED: &[Step] = &[
     Step::Release(1),
 ];
 
-// The calls of released clients return, with nothing delivered, and lend no more.
+// The calls of released clients return, with nothing delivered, and end their lends.
 #[test]
 fn clients_are_released(rt: HostRuntime) {
     play(&rt, rt.alloc(), small_limits(), RELEASED)

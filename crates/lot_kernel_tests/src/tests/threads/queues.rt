@@ -1,4 +1,4 @@
-//! Queues by hand, with the results of their calls.
+//! Queues, step by step, with the results of their calls.
 ghost use Rattle.std.specs.Prelude.{◌≡◌, ◌↔◌, IsTrue, ◌≤◌, vec_capacity};
 ghost use Rattle.lot_queues.specs.QueueLists.{IsNowhere, IsThere};
 
@@ -37,7 +37,7 @@ fn check_free(rt: &impl Abort, queues: &Queues, thread: u32)
     assert!(rt; queues.is_nowhere(thread));
 }
 
-/// Queues with as many threads as they have room for.
+/// Full queues: they have as many threads as their capacity.
 fn full(rt: &impl Abort, alloc: Global) -> Queues {
     let mut queues = Queues::new(alloc, PORTS, MUTEXES, THREADS).expect(rt, "memory");
     for _ in 0..THREADS {
@@ -47,7 +47,7 @@ fn full(rt: &impl Abort, alloc: Global) -> Queues {
     queues
 }
 
-/// A queue, as `Call` at a port, with its number.
+/// A queue, with the number of its port, server or mutex.
 #[derive(Clone, Copy)]
 enum Queue {
     Calls(u32),
@@ -103,7 +103,6 @@ fn take(rt: &impl Abort, queues: &mut Queues, queue: Queue) -> Option<u32> {
     }
 }
 
-/// Checks the waiters of a mutex.
 fn check_waiters(rt: &impl Abort, alloc: Global, queues: &Queues, mutex: u32, expected: &[u32]) {
     let mut out = Stack::new(alloc, THREADS as usize).expect(rt, "memory");
     assert!(rt; queues.room() as usize <= out.room());
@@ -130,7 +129,7 @@ fn take_waiter_at(
     thread
 }
 
-/// The number of the port, server or mutex that a queue is at.
+/// The number of a queue's port, server or mutex.
 fn number_of(queue: Queue) -> u32 {
     match queue {
         Queue::Calls(number)
@@ -151,7 +150,7 @@ fn push_all(rt: &impl Abort, queues: &mut Queues, queue: Queue, threads: &[u32])
     }
 }
 
-/// Takes the first thread out of a queue as often, and compares it each time.
+/// Takes the first thread out of a queue once for each of these, and compares it.
 fn check_all_taken(rt: &impl Abort, queues: &mut Queues, queue: Queue, expected: &[Option<u32>]) {
     for first in expected {
         check_taken(rt, queues, queue, *first);
@@ -162,7 +161,7 @@ const THREE: &[u32] = &[3, 1, 2];
 
 const THREE_TAKEN: &[Option<u32>] = &[Some(3), Some(1), Some(2), None];
 
-/// Puts three threads into a queue, which is empty, and takes them out in the same order.
+/// Puts three threads into an empty queue, and takes them out in the same order.
 fn check_order(rt: &impl Abort, queues: &mut Queues, queue: Queue) {
     push_all(rt, queues, queue, THREE);
     check_all_taken(rt, queues, queue, THREE_TAKEN)
@@ -185,7 +184,7 @@ fn the_longest_waiting_is_taken_first(rt: HostRuntime) {
     }
 }
 
-/// One thread for each of some queues.
+/// One thread for each of these queues.
 const PUSHED: &[(Queue, u32)] = &[
     (Queue::Calls(1), 4),
     (Queue::Receivers(2), 2),
@@ -193,10 +192,10 @@ const PUSHED: &[(Queue, u32)] = &[
     (Queue::Waiters(3), 1),
 ];
 
-/// Whether each thread is nowhere then.
+/// Whether each thread is nowhere afterwards.
 const NOWHERE: &[(u32, bool)] = &[(1, false), (2, false), (3, true), (4, false), (5, false)];
 
-/// The first thread of each queue then.
+/// The first thread of each queue afterwards.
 const FIRSTS: &[(Queue, Option<u32>)] = &[
     (Queue::Calls(2), None),
     (Queue::Receivers(1), None),
@@ -261,7 +260,7 @@ fn a_call_has_the_number_sent_with_it(rt: HostRuntime) {
 
 const WAITERS: &[u32] = &[2, 5, 1, 4];
 
-/// Places of waiters in turn, and the threads that are taken from there.
+/// Indices of waiters in turn, and the threads taken from there.
 const PLACES: &[(usize, u32)] = &[(1, 5), (2, 4), (0, 2), (0, 1)];
 
 /// Takes the waiters from their places, and compares them.
@@ -291,8 +290,8 @@ fn take_out(rt: &impl Abort, queues: &mut Queues, thread: u32) {
 
 const TWO_TAKEN: &[Option<u32>] = &[Some(3), Some(2), None];
 
-/// Puts three threads into a queue, which is empty, and takes out the second of them and one that is in no queue: the
-/// others stay in order.
+/// Puts three threads into an empty queue, and takes out the second of them and one that is in no queue: the others
+/// stay in order.
 fn check_taken_out(rt: &impl Abort, queues: &mut Queues, queue: Queue) {
     push_all(rt, queues, queue, THREE);
     take_out(rt, queues, 1);
@@ -330,7 +329,7 @@ fn a_waiter_is_taken_out_of_its_queue(rt: HostRuntime) {
     check_first_waiter(&rt, &queues, 3, None)
 }
 
-/// Gives a mutex this owner, and compares the owners of all of them then.
+/// Sets the owner of a mutex, and compares the owners of all mutexes.
 fn check_owner(rt: &impl Abort, queues: &mut Queues, owner: Option<u32>, owners: &[Option<u32>]) {
     check_mutex(rt, queues, 2);
     queues.set_owner(2, owner);
@@ -339,7 +338,7 @@ fn check_owner(rt: &impl Abort, queues: &mut Queues, owner: Option<u32>, owners:
     check_same(rt, &queues.owner(2), &owner);
 }
 
-/// Owners of the second mutex in turn, and the owners of all of them then.
+/// Owners of the second mutex in turn, and the owners of all mutexes after each.
 const OWNERS: &[(Option<u32>, &[Option<u32>])] = &[
     (Some(4), &[None, Some(4), None]),
     (Some(1), &[None, Some(1), None]),

@@ -249,7 +249,7 @@ fn small_limits() -> Option<Limits> {
     })
 }
 
-/// On processor 1, nothing used yet.
+/// On processor 1, with no ticks used.
 const FIRST: Status = Status::Running {
     processor: 1,
     used: 0,
@@ -287,8 +287,8 @@ const RUNNING: &[Step] = &[
     Step::Wins(49, (1, 49, 50)),
 ];
 
-// A thread that runs is left out of draws, and another can't run there; after 20 ticks of 100 it weighs five times as
-// much.
+// Draws leave out a running thread, and no other thread can run on its processor. After 20 ticks of 100 it weighs five
+// times its value.
 #[test]
 fn threads_run(rt: HostRuntime) {
     play(&rt, rt.alloc(), small_limits(), RUNNING)
@@ -311,7 +311,7 @@ const ENDED: &[Step] = &[
     Step::Wins(44, (3, 4, 5)),
 ];
 
-// A thread that ends leaves its processor, and wins no draw, however small a part of its quantum it had used.
+// A thread that ends leaves its processor, and wins no draw, however little of its quantum it has used.
 #[test]
 fn threads_end(rt: HostRuntime) {
     play(&rt, rt.alloc(), small_limits(), ENDED)
@@ -340,7 +340,7 @@ const SERVED: &[Step] = &[
     Step::Wins(99, (1, 99, 100)),
 ];
 
-// A client lends all that it is worth to its server, which its tickets stay active for; a server can't lend back.
+// A client lends its whole value to its server, so its tickets stay active. A server can't lend back.
 #[test]
 fn clients_lend(rt: HostRuntime) {
     play(&rt, rt.alloc(), small_limits(), SERVED)

@@ -1,4 +1,4 @@
--- Those that came before wait, and none stands at two places.
+-- The threads passed so far wait, and none is listed twice.
 use Rattle.lot_mutex.proofs.Common.{Contains, Some, slice_index, status_of, take, ℕ, ◌<◌, ◌≡◌}
 use Rattle.lot_machine.specs.declared.record.Status.TheVariants as status
 use Rattle.lot_mutex.proofs.checks.are_waiting.Given as goal

@@ -1,4 +1,4 @@
--- The mutexes that came before have the same owners.
+-- The mutexes passed so far have the same owners.
 use Rattle.lot_mutex.proofs.Common.{funding_in, mutex_at, owner_of, ℕ, ◌+◌, ◌<◌, ◌≡◌}
 use Rattle.lot_mutex.proofs.checks.have_same_owners.Given as goal
 

@@ -1,4 +1,4 @@
--- What those are worth who came before.
+-- The values of the threads passed so far.
 use Rattle.lot_mutex.proofs.Common.{length, map, take, worth_in, ◌≡◌, ◌≤◌}
 use Rattle.lot_mutex.proofs.lottery.list_worths.Given as goal
 

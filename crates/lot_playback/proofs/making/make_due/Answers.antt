@@ -1,4 +1,4 @@
--- The turn that is due is the timer's, if its actor is above the processors; its thread sleeps then.
+-- The turn that is due is the timer's, if its actor is above the processors; its thread then sleeps.
 use Rattle.lot_playback.proofs.Lemmas.{Due, IsBetween, IsDue, Seen, Timekeeper, after_turn, alarm-due, ap, arith, asleep-there, due-there, length, moment_in, refl, sleeper-numbered, sleeper-there, sym, turn_in, world_of, ◌+◌, ◌-◌, ◌<◌, ◌∙◌, ◌≡◌, ◌≤◌}
 use Rattle.lot_playback.proofs.making.make_due.Goals as goal
 

@@ -1,4 +1,4 @@
--- A turn that isn't made leaves fewer than all.
+-- After a failed turn the seat has made fewer turns than all.
 use Rattle.lot_processors.proofs.Lemmas.{ap, arith, err_from_is_err_and, length, looked, made_then, refused_console, stopped, ◌+◌, ◌∙◌}
 use Rattle.lot_processors.proofs.baton_workers.command_turns.Goals as goal
 

@@ -1,4 +1,4 @@
--- What was made before the loop, before a turn, and by it.
+-- The turns made before the loop, before a turn, and by it.
 use Rattle.lot_processors.proofs.Lemmas.{HasMade, IsWorkOf, arith, err_from_is_err_and, looked, made_then, refl, stopped, subst, sym, ◌+◌, ◌∙◌, ◌≡◌}
 use Rattle.lot_processors.proofs.BatonWork.{none_made}
 use Rattle.lot_processors.proofs.baton_workers.processor_turns.Goals as goal

@@ -1,4 +1,4 @@
--- What each worker did, and then the first fault.
+-- The turns of each worker, and then the first fault.
 use Rattle.lot_processors.proofs.Lemmas.{EachSeat, HasWorked, Seat, all_made, arith, first_stops, refl, subst}
 use Rattle.lot_processors.proofs.baton_workers.run_all_baton.Goals as goal
 

@@ -1,4 +1,4 @@
--- A turn that is made is one more. A refused one makes none, and the work that it carries is tried, or was the last.
+-- A made turn counts once. A refused one counts as none, and the work that it carries is tried, or was the last.
 use Rattle.lot_processors.proofs.Lemmas.{IsLastWork, IsWorkOf, Matches, Option, Work, err_from_is_err_and, later-had, looked, made_then, refused, subst, sym, unfit, ◌∙◌}
 use Rattle.lot_processors.proofs.BatonWork.{turned}
 use Rattle.lot_processors.proofs.baton_workers.turn_with.Goals as goal

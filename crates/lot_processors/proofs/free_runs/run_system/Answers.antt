@@ -1,4 +1,5 @@
--- The seats were dealt by an empty system. They made all their turns, which are those of the history; or one was stopped first.
+-- The seats were dealt by an empty system. They made all their turns, which are those of the history; or a fault
+-- stopped one first.
 use Rattle.lot_processors.proofs.Lemmas.{AllMade, IsLegal, Setting, ap, fault_in, free_turns, has_others, inl, inr, still_in_order, subst, sym, was_stopped, ◌∙◌, ◌≡◌, ◌≤◌}
 use Rattle.lot_processors.proofs.free_runs.run_system.Goals as goal
 

@@ -1,4 +1,4 @@
--- A turn that is made is one more, and one that isn't leaves fewer than all.
+-- A made turn counts once, and after a failed one the seat has made fewer turns than all.
 use Rattle.lot_processors.proofs.Lemmas.{Holder, ap, arith, err_from_is_err_and, length, none_made, refl, turned, ◌∙◌}
 use Rattle.lot_processors.proofs.SeatWork.{refused_console, stopped}
 use Rattle.lot_processors.proofs.workers.command_turns.Goals as goal

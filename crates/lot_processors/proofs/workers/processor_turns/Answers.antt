@@ -1,4 +1,4 @@
--- What was made before a turn, and by it.
+-- The turns made before a turn, and by it.
 use Rattle.lot_processors.proofs.Lemmas.{AtSome, IsWorkOf, arith, err_from_is_err_and, made-then, none_made, refl, subst, sym, ◌∙◌}
 use Rattle.lot_processors.proofs.SeatWork.{stopped}
 use Rattle.lot_processors.proofs.workers.processor_turns.Goals as goal

@@ -1,4 +1,4 @@
--- What each worker did, and then the first fault.
+-- The turns of each worker, and then the first fault.
 use Rattle.lot_processors.proofs.Common.{EachSeat, Holder, arith, refl, subst}
 use Rattle.lot_processors.proofs.SeatWork.{all_made, first_stops}
 use Rattle.lot_processors.specs.Workers.{HasWorked}

@@ -1,4 +1,5 @@
--- A turn that is made is one more. A refused one leaves the seat, and the work that it carries is tried, or was the last.
+-- A made turn counts once. A refused one leaves the seat unchanged, and the work that it carries is tried, or was the
+-- last.
 use Rattle.lot_processors.proofs.Lemmas.{AtSome, Holder, IsLastWork, IsWorkOf, Matches, Option, StopsTurn, Work, err_from_is_err_and, none_made, refl, subst, sym, turned, ◌∙◌}
 use Rattle.lot_processors.specs.Workers.{HasMade}
 use Rattle.lot_processors.proofs.SeatWork.{later-had, refused, unfit}

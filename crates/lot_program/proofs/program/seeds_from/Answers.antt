@@ -1,4 +1,4 @@
--- One more seed is the next, and the one after it is the next of the generator.
+-- One more seed is the next one, and the seed after it is the next of the generator.
 use Rattle.lot_program.proofs.Common.{All, All-append, All-replicate, IsBetween, IsSeed, List, ap, append_assoc, arith, length, length-append, rules, seeds_from, subst, suc, sym, ℕ, [], ◌%◌, ◌*◌, ◌++◌, ◌+◌, ◌-◌, ◌∙◌, ◌∷◌, ◌≡◌}
 use Rattle.lot_program.proofs.program.seeds_from.Goals as goal
 

@@ -1,4 +1,4 @@
--- what the rest of the table says of the token is what the whole says
+-- the rest of the table has the same row for the token as the whole
 use Rattle.lot_simulation.proofs.Common.{length, map, word_in, ◌≡◌}
 use Rattle.lot_simulation.proofs.words.word_spelled.Given as goal
 

@@ -1,4 +1,4 @@
--- What is written is told by what was read.
+-- The input decides the text written.
 use Rattle.lot_system.proofs.Common.{Bool, EndsPlay, InputFault, IoFault, List, Ok, Option, Played, Program, Result, came_of, output_of, program_in, subst, sym, ℕ, ◌≡◌}
 use Rattle.lot_system.proofs.inputs.play_bytes.Goals as goal
 

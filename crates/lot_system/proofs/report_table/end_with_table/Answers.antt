@@ -1,4 +1,4 @@
--- The end of the play is that of the system it had.
+-- The end of the play is that of its system.
 use Rattle.lot_system.proofs.Lemmas.{HasMade, IsInOrder, Seen, ap, on-any, over-at-end, program_turns, stopped-at-end, stopped_in, subst, sym, ◌||◌, ◌∙◌}
 use Rattle.lot_system.proofs.report_table.end_with_table.Goals as goal
 

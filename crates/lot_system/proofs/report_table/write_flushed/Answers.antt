@@ -1,4 +1,4 @@
--- What is flushed is the table.
+-- The flushed text is the table.
 use Rattle.lot_system.proofs.Common.{last_table, writes-flushed}
 use Rattle.lot_system.proofs.report_table.write_flushed.Goals as goal
 

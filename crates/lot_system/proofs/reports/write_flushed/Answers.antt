@@ -1,4 +1,4 @@
--- What is flushed is the report.
+-- The flushed text is the report.
 use Rattle.lot_system.proofs.Common.{last_report, writes-flushed}
 use Rattle.lot_system.proofs.reports.write_flushed.Goals as goal
 

@@ -1,4 +1,4 @@
--- What is played is the program with the seed.
+-- The play is one of the program with the seed.
 use Rattle.lot_system.proofs.Common.{AreOverOneMore, OnOk, Program, ap, ends_refused, subst, sym, ◌||◌, ◌∙◌, ◌≡◌}
 use Rattle.lot_system.proofs.seeds.play_with.Goals as goal
 

@@ -1,4 +1,4 @@
--- The report is all that is written.
+-- The text written is the report alone.
 use Rattle.lot_system.proofs.Lemmas.{Err, ap, ends-err, ends_refused, err-is, refl, report_text, ◌||◌, ◌∙◌, ◌≡◌}
 use Rattle.lot_system.proofs.summary.report_program.Goals as goal
 

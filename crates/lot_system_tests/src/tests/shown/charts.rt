@@ -60,7 +60,7 @@ fn tables(rt: HostRuntime) {
     check_table(&rt, rt.alloc(), &curves, Measure::Draws, draws)
 }
 
-/// Nobody has run at tick 0, and of the last two ticks at tick 3 each thread has one.
+/// No thread has run at tick 0, and of the last two ticks at tick 3 each thread has one.
 #[test]
 fn tables_with_a_window(rt: HostRuntime) {
     let curves = three_ticks(&rt, rt.alloc()).with_window(Some(2));

@@ -28,7 +28,7 @@ pub(super) enum Came {
     Idle,
 }
 
-/// The end of a turn, and what it came to.
+/// The end of a turn, and its result.
 pub(super) type Turn = (u32, Came);
 
 /// The stretch of a turn.
@@ -64,7 +64,7 @@ fn stretches_of(alloc: Global, turns: &[Turn]) -> Result<Vec<Stretch>, AllocErro
 pub(super) fn curves_of(rt: &impl Abort, alloc: Global, texts: &[&str], turns: &[Turn]) -> Curves
     ensures { length result.names ≡ length texts.now }
 {
-    // So few are counted in 32 bits.
+    // A `u32` can count so few.
     if texts.len() > 100 || turns.len() > 100 {
         rt.panic("a few threads and turns")
     }

@@ -7,7 +7,7 @@ ghost use Rattle.lot_system.specs.declared.inputs.Played.TheVariants as came;
 use lot_io::IoFault;
 use lot_system::Played;
 
-/// Whether a run was played to its end and has written something, or lacked memory and has written nothing.
+/// Whether a run was played to its end and wrote something, or lacked memory and wrote nothing.
 pub(crate) fn has_written_or_lacked_memory(ended: Result<Played, IoFault>, written: usize) -> bool
     ensures { IsTrue result ↔ (((ended ≡ Ok came.Done) × (0 < written))
         ⊎ ((ended ≡ Err faults.Memory) × (written ≡ 0))) }

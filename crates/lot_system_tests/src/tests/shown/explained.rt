@@ -1,4 +1,4 @@
-//! Inputs that are explained, and their explanations.
+//! Inputs and their explanations.
 use super::{Shown, outcome};
 use crate::tests::same::check_same_at;
 use lot_system::Played;
@@ -157,7 +157,7 @@ processor 1 quanta 4 idle 0 ticks 300 unused 0
 total turns 18 quanta 4 ticks 300 refused 2 left 0
 ";
 
-/// A thread that is removed once it has ended and no ticket funds it. Another gets its name, and a number of its own.
+/// A thread is removed once it has ended and no ticket funds it. Another gets its name, and a number of its own.
 const REMOVAL: &str = "lottery 3
 quantum 10
 for 15
@@ -221,7 +221,7 @@ fundx 1 base b work
 ";
 
 /// Its explanation, computed by a small model of the rules. While the thread sleeps it takes part in no draw, and a
-/// wake explains nothing. Then it weighs five times as much, since it used a fifth of its quantum.
+/// wake has no explanation. Afterwards it weighs five times as much, since it used a fifth of its quantum.
 const EXPLAINED_SLEEPER: &str = "0 0 funded 1 1
 0 0 funded 2 2
 0 1 lot thread 1 a weight 1 from 0 below 1 wins
@@ -245,8 +245,8 @@ processor 1 quanta 4 idle 0 ticks 13 unused 0
 total turns 10 quanta 4 ticks 13 refused 0 left 0
 ";
 
-/// A server waits for a mutex while it serves a client, so what the client lends it goes on to the owner. Another
-/// thread waits for the mutex too, until its only ticket funds it no longer.
+/// A server waits for a mutex while it serves a client, so the client's loan goes on to the owner. Another thread waits
+/// for the mutex too, until it loses its only ticket.
 const LENDERS: &str = "lottery 3
 quantum 10
 for 34
@@ -273,8 +273,8 @@ at 25
 unfund 4
 ";
 
-/// Its explanation, computed by a small model of the rules. The call in the port's queue lends to nobody, and a thread
-/// that is worth nothing is left out.
+/// Its explanation, computed by a small model of the rules. The caller of the queued call lends to nobody, and a thread
+/// that is worth 0 has no loan.
 const EXPLAINED_LENDERS: &str = "0 0 funded 1 1
 0 0 funded 2 2
 0 0 funded 3 3

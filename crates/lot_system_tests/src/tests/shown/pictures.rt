@@ -65,7 +65,7 @@ fn tables_in_time(rt: HostRuntime) {
     check_shares(&rt, alloc, Measure::Draws, COMES_LATER, done, draws);
 }
 
-/// A removed thread keeps its column, which has its number for a name.
+/// A removed thread keeps its column, with its number as the name.
 #[test]
 fn tables_with_removed(rt: HostRuntime) {
     let alloc = rt.alloc();

@@ -1,4 +1,4 @@
-//! Refused lines that can be skipped, and lines that can't.
+//! Refused lines that a caller can skip, and lines that it can't.
 use crate::tests::same::check_same_at;
 use lot_diagnostics::line_to_skip;
 use lot_simulation::InputFault;
@@ -14,7 +14,7 @@ pub(super) fn fault_of(rt: &impl Abort, alloc: Global, input: &[u8]) -> InputFau
     }
 }
 
-/// Reads the input, which is refused, and compares the place of the line to skip.
+/// Reads the input, which is refused, and compares the index of the line to skip.
 fn check<H: Abort>(rt: &H, alloc: Global, input: &[u8], expected: Option<usize>) {
     let place = line_to_skip(alloc, input, fault_of(rt, alloc, input));
     check_same_at(rt, &input, &place, &expected);
@@ -188,7 +188,7 @@ fn steps_of_one_line(rt: HostRuntime) {
     check_lines(&rt, alloc, STEPS, KEPT_STEP_LINES, None);
 }
 
-/// The front, and then the text so many times.
+/// The front, and then this many copies of the text.
 pub(super) fn repeated<H: Abort>(
     rt: &H,
     alloc: Global,

@@ -1,8 +1,9 @@
-//! Plays that leave something to warn of, and the words that tell it.
+//! Plays with warnings, and the words of these.
 use super::{check_said, words_of};
 use crate::tests::same::check_same_at;
 use lot_io::Watched;
-use lot_system::{Warnings, play_bytes};
+use lot_simulation::Warnings;
+use lot_system::play_bytes;
 use std::alloc::Global;
 use std::process::Abort;
 
@@ -131,7 +132,7 @@ const NAMES_OF_ANOTHER_TIME: &[Row] = &[
     ),
 ];
 
-// Thread `alice` ends at its first tick. A name that was removed, or that a later line gives, isn't misspelt.
+// Thread `alice` ends at its first tick. The name of a removed thread, or one given by a later line, is no misspelling.
 #[test]
 fn names_of_another_time(rt: HostRuntime) {
     check_commands(&rt, rt.alloc(), NAMES_OF_ANOTHER_TIME)
@@ -375,7 +376,7 @@ fn strict_inputs(rt: HostRuntime) {
     check_all(&rt, rt.alloc(), STRICT_INPUTS)
 }
 
-/// Nobody serves at port `print`, the second. Thread `own` ends with mutex `gate`, the second, and with the client
+/// No thread serves at port `print`, the second. Thread `own` ends with mutex `gate`, the second, and with the client
 /// `ask`, whose call at port `mail` it took.
 const WAITING: &str = "lottery 3
 for 99
@@ -549,7 +550,8 @@ and 4 more traps that were refused
     ),
 ];
 
-// Of the twelve refused traps of `MANY` eight are listed. Of `AGAIN` it isn't known which script thread `a` ran.
+// The warnings list eight of the twelve refused traps of `MANY`. For `AGAIN` they can't tell which script thread `a`
+// ran.
 #[test]
 fn waits_and_refused_traps(rt: HostRuntime) {
     check_all(&rt, rt.alloc(), WAITS_AND_REFUSED_TRAPS)

@@ -192,7 +192,7 @@ const BYTES: &[Row] = &[
     ),
 ];
 
-/// The beginnings of files in UTF-16, with the low byte first and with the high byte first.
+/// The byte order marks of UTF-16, low byte first and high byte first.
 const WIDE: &[&[u8]] = &[
     b"\xff\xfel\x00o\x00t\x00\n\x00",
     b"\xfe\xff\x00l\x00o\x00t\x00\n",
@@ -371,7 +371,7 @@ fn long_input<H: Abort>(rt: &H, alloc: Global, line: &[u8]) -> Vec<u8> {
     input
 }
 
-// The line may be ignored, cut off or ended there.
+// The line may be an ignored one, or be cut off or end there.
 #[test]
 fn long_inputs(rt: HostRuntime) {
     let expected = "line 4098: the input has more than 16777216 bytes\n";
@@ -810,7 +810,7 @@ fundx 5 base a s
 lsthr
 ";
 
-/// Places among the commands above, and their lines.
+/// Indices among the commands above, and their lines.
 const LINES: &[(usize, Option<u32>)] = &[
     (0, Some(8)),
     (1, Some(10)),

@@ -1,5 +1,5 @@
-//! Events of all kinds from a fixed generator, over the largest tables: a kernel that was asked for its rows again
-//! and again shows what a kernel shows that got the same events at once.
+//! Events of all kinds from a fixed generator, over the largest tables. After many listings a kernel shows the same
+//! rows as a kernel that got all events at once.
 
 use super::reads::may_read;
 use crate::tests::same::check_same;
@@ -18,7 +18,7 @@ const PART: u32 = 1000;
 /// The number of comparisons.
 const PARTS: u32 = 100;
 
-/// The generator of the events: it always begins with the same seed.
+/// The generator of the events, always with the same seed.
 fn generator(rt: &impl Abort) -> ParkMiller {
     ParkMiller::new(1).expect(rt, "a seed")
 }
@@ -72,7 +72,7 @@ fn target_ref(rt: &impl Abort, alloc: Global, numbers: &mut ParkMiller) -> Targe
     }
 }
 
-/// Another amount for a ticket, now and then the largest, or one that no ticket has.
+/// Another amount for a ticket, sometimes the largest, or one that no ticket can have.
 fn next_setting(numbers: &mut ParkMiller, ticket: u64) -> Command {
     let amount = match numbers.next() % 16 {
         0 => 0,

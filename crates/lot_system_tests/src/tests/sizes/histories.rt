@@ -1,4 +1,4 @@
-//! Histories that are full.
+//! Full histories.
 
 use crate::tests::same::check_same;
 use lot_engine::{System, TurnFault};
@@ -6,7 +6,7 @@ use lot_machine::Reply;
 use lot_text::parse;
 use std::process::Abort;
 
-/// The result of a draw on processor 1, on which no thread runs: a reply, or none if the history is full.
+/// The reply to a draw on idle processor 1, or `None` if the history is full.
 fn draw(rt: &impl Abort, system: &mut System) -> Option<Reply> {
     assert!(rt; 1 <= system.processors());
     match system.turn(1, None) {
@@ -18,7 +18,7 @@ fn draw(rt: &impl Abort, system: &mut System) -> Option<Reply> {
     }
 }
 
-// A draw without a winner is a turn of the history, as any other.
+// A draw without a winner is a turn of the history, like any other.
 #[test]
 fn idle_draws_fill_a_history(rt: HostRuntime) {
     let alloc = rt.alloc();

@@ -11,7 +11,7 @@ use std::process::Abort;
 /// The most bytes that an input may have.
 const MOST_BYTES: usize = 16777216;
 
-/// The line and the refusal of an input that is refused; nothing if it isn't.
+/// The line and the refusal of an input, or `None` if it is accepted.
 fn refused(rt: &impl Abort, alloc: Global, bytes: &[u8]) -> Option<(u32, InputRefusal)> {
     let fault = fault_of(alloc, bytes).expect(rt, "memory")?;
     Some((fault.line, fault.refusal))
@@ -37,7 +37,7 @@ fn long_schedule(rt: &impl Abort, alloc: Global) -> Vec<u8> {
     bytes
 }
 
-/// Fills the input up to this length with lines that are ignored, of 4096 bytes each except the last.
+/// Fills the input up to this length with ignored lines, of 4096 bytes each except the last.
 fn fill(rt: &impl Abort, bytes: &mut Vec<u8>, length: usize) {
     let line = [b'#'; 4096];
     let missing = length.saturating_sub(bytes.len());
@@ -81,7 +81,7 @@ fn refuses_one_entry_more(rt: HostRuntime) {
     check_same(&rt, &found, &Some((502, InputRefusal::TooLong)));
 }
 
-/// A header, and then this line with each number from 1 to the count put in, with what follows it.
+/// A header, and then this line with each number from 1 to the count between its two parts.
 fn numbered(rt: &impl Abort, alloc: Global, front: &str, back: &str, count: u32) -> String {
     let mut text = String::from_str(alloc, "lottery 1\n").expect(rt, "memory");
     for number in 1..=count {

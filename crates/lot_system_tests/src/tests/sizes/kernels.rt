@@ -40,7 +40,6 @@ fn name(rt: &impl Abort, text: &str) -> Name {
     Name::new(text).expect(rt, "a name")
 }
 
-/// The reply to a command.
 fn reply_to(kernel: &mut Kernel, command: Command) -> Reply {
     kernel.event(&Event::Command(command))
 }
@@ -95,7 +94,7 @@ fn check_currency(rt: &impl Abort, kernel: &mut Kernel, text: &str, number: u32)
     check(rt, make_currency(rt, kernel, text), Reply::Currency(number));
 }
 
-/// Issues a ticket of this amount that has this number, and has it fund a currency.
+/// Issues a ticket of this amount that gets this number, and funds a currency with it.
 fn make_link(
     rt: &impl Abort,
     kernel: &mut Kernel,
@@ -109,7 +108,7 @@ fn make_link(
     check(rt, done, Reply::Done);
 }
 
-/// Makes a thread with a ticket of this amount, issued in this currency; they have these numbers.
+/// Makes a thread with a ticket of this amount, issued in this currency; they get these numbers.
 fn check_funded(
     rt: &impl Abort,
     kernel: &mut Kernel,
@@ -164,7 +163,6 @@ fn check_worth_nothing(rt: &impl Abort, kernel: &mut Kernel) {
     }
 }
 
-/// Sets a ticket's amount.
 fn set_ticket(rt: &impl Abort, kernel: &mut Kernel, ticket: u64, amount: u64) {
     let done = reply_to(kernel, Command::SetTicket { ticket, amount });
     check(rt, done, Reply::Done);
@@ -194,7 +192,7 @@ fn check_exit(rt: &impl Abort, kernel: &mut Kernel) {
     check_event(rt, kernel, Event::Draw(1, 6), Reply::Idle);
 }
 
-// Base's funding reaches the thread through all the currencies, and everything is worthless once it has ended.
+// Base's funding reaches the thread through all the currencies, and everything is worth 0 once it has ended.
 #[test]
 fn a_chain_of_all_currencies(rt: HostRuntime) {
     let mut kernel = new_kernel(&rt, rt.alloc());
@@ -202,7 +200,7 @@ fn a_chain_of_all_currencies(rt: HostRuntime) {
     check_exit(&rt, &mut kernel);
 }
 
-// Another amount of base's ticket reaches the thread too, although the thread runs when the ticket gets it.
+// Another amount of base's ticket reaches the thread too, even while the thread runs.
 #[test]
 fn inflation_of_all_currencies(rt: HostRuntime) {
     let mut kernel = new_kernel(&rt, rt.alloc());
@@ -233,7 +231,7 @@ fn check_third(rt: &impl Abort, kernel: &mut Kernel) {
     check_event(rt, kernel, Event::Expire(1), expired);
 }
 
-// A second ticket that funds a currency is shared at once: 100 and 50 of base over three threads of 33 each.
+// A second ticket of a currency counts at once: 100 and 50 of base over three threads of 33 each.
 #[test]
 fn a_second_ticket_is_shared(rt: HostRuntime) {
     let mut kernel = new_kernel(&rt, rt.alloc());
@@ -244,7 +242,7 @@ fn a_second_ticket_is_shared(rt: HostRuntime) {
     check_event(&rt, &mut kernel, draw, won(3, 149, 150, None));
 }
 
-/// Makes a thread that 100 of base reach by two currencies, and 60 by the second alone.
+/// Makes a thread that 100 of base reach through two currencies, and 60 through the second alone.
 fn make_upstream(rt: &impl Abort, kernel: &mut Kernel) {
     check_currency(rt, kernel, "g", 1);
     check_currency(rt, kernel, "h", 2);
@@ -272,7 +270,7 @@ fn an_unfunding_upstream_is_seen(rt: HostRuntime) {
     check_quantum(&rt, &mut kernel, (59, 60));
 }
 
-// And it follows an amount there. The thread's one ticket has all of its currency, whatever its amount is.
+// A value follows an amount there, too. The thread's one ticket gets all of its currency, whatever its amount.
 #[test]
 fn an_amount_upstream_is_seen(rt: HostRuntime) {
     let mut kernel = new_kernel(&rt, rt.alloc());

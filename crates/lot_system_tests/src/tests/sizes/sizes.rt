@@ -1,4 +1,4 @@
-//! Calls that allocate memory, at the least and the largest sizes.
+//! Calls that allocate, at the least and the largest sizes.
 ghost use Rattle.std.specs.Prelude.{◌≡◌, ◌+◌, false};
 
 use crate::tests::same::{check_same, check_same_at};
@@ -86,7 +86,7 @@ fn lists_queues_and_trees(rt: HostRuntime) {
 /// The shortest input.
 const LEAST: &str = "lottery 1";
 
-/// An input with the most processors and the longest script there may be.
+/// An input with the most processors and the longest script that an input may have.
 fn large_input(rt: &impl Abort, alloc: Global) -> String {
     let header = "lottery 2\nprocessors 64\nquantum 1000\nturns 10000\nscript long\n";
     let mut text = String::from_str(alloc, header).expect(rt, "memory");
@@ -181,7 +181,7 @@ fn seats_of<T: TurnLedger, Q: Ledger, K: Ledger>(
     Ok(station.close(seats).ok().map(|_system| count))
 }
 
-/// Opens and closes a station that has ledgers of its own. Returns the number of its seats.
+/// Opens and closes a station with ledgers of its own. Returns the number of its seats.
 fn seats_in(alloc: Global, program: &Program, room: u32) -> Result<Option<usize>, AllocError> {
     let system = System::open(alloc, program, room)?;
     let parts = u64::from(system.processors()) + 1;

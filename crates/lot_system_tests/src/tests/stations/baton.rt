@@ -1,4 +1,4 @@
-//! Seats of a station that take turns from one thread and from many.
+//! Seats of a baton station that take turns on one thread and on many.
 ghost use Rattle.std.specs.Prelude.{◌≡◌, All, IfSome};
 ghost use Rattle.lot_station.specs.BatonSeats.{IsSameSeat, IsSeatOf};
 
@@ -64,7 +64,7 @@ fn dealt(
     (station, zero, one, two)
 }
 
-/// The draw of the second processor, if it comes before the first's.
+/// The reply to the draw of the second processor, if it comes before the first's.
 const OTHER_DRAW: Option<Reply> = Some(Reply::Winner {
     thread: 1,
     number: 5,
@@ -103,7 +103,7 @@ fn unclosed<R: Wait + Abort>(rt: &R, station: BatonStation, seats: Vec<BatonSeat
     }
 }
 
-/// The error of closing a station with the seats that it handed back, and then this one, or `None` if out of memory.
+/// The error of closing a station with the seats that it returned, and then this one, or `None` if out of memory.
 fn unclosed_with<R: Wait + Abort>(
     rt: &R,
     mut back: SeatMissing,
@@ -116,8 +116,8 @@ fn unclosed_with<R: Wait + Abort>(
     Some(unclosed(rt, back.station, back.seats))
 }
 
-/// The station handed back with its three seats, of which the last two are in each other's places, once since a seat
-/// was missing and once since two were in another order.
+/// The station with its three seats, the last two exchanged, after it returned them twice: once for a missing seat, and
+/// once for the wrong order.
 fn handed_back<R: Wait + Abort>(
     rt: &R,
     alloc: Global,
@@ -134,7 +134,7 @@ fn handed_back<R: Wait + Abort>(
     unclosed_with(rt, back, one).expect(rt, "memory")
 }
 
-/// The station closed, once a seat was missing and once two were in another order.
+/// The closed station, after one failure for a missing seat and one for the wrong order.
 fn closed<R: Wait + Abort>(
     rt: &R,
     alloc: Global,
@@ -192,8 +192,8 @@ fn scheduled<R: Wait>(
     ]
 }
 
-/// Whether the seat's turn is one of the console without a command left, and the seat keeps that fault until it is
-/// taken.
+/// Whether the seat's turn fails with `Ended`, the console having no command left, and the seat stores that fault until
+/// it is taken.
 fn is_ended<R: Wait>(
     rt: &R,
     station: &BatonStation,
@@ -230,8 +230,8 @@ fn check_scheduled<R: Wait + Abort>(rt: &R, alloc: Global, program: &Program) {
     check_end(rt, alloc, closed(rt, alloc, station, zero, one, two))
 }
 
-// The row of the station under a lock: the same replies, a refusal of the console's next turn, the same numbers of the
-// seats, and the same end.
+// The same row as for the station under a lock: the same replies, a fault of the console's next turn, the same numbers
+// of the seats, and the same end.
 #[test]
 fn write_then_read(rt: HostRuntime) {
     let alloc = rt.alloc();

@@ -1,4 +1,4 @@
-//! A history that is full before all turns are made.
+//! A history that gets full before all turns are made.
 ghost use Rattle.std.specs.Prelude.{◌≡◌, ◌+◌, false};
 
 use crate::tests::same::{check_same, check_same_at};
@@ -16,12 +16,11 @@ use std::sync::ledger::{Blank, Ledger};
 use std::test::*;
 use std::thread::Threads;
 
-/// Whether the run was stopped by a full history.
+/// Whether a full history stopped the run.
 pub(super) fn is_stopped(run: Result<(), RunFault>) -> bool {
     matches!(run, Err(RunFault::Turn(TurnFault::HistoryFull)))
 }
 
-/// The turns of all seats.
 fn turns_of<T: TurnLedger, Q: Ledger, K: Ledger>(seats: &[Seat<T, Q, K>]) -> u64 {
     let mut turns: u64 = 0;
     for seat in seats {
@@ -67,7 +66,7 @@ fn work<
     }
 }
 
-/// The turns of the program in a station with room for this many, which has ledgers of its own.
+/// The turns of the program in a station with room for this many, with ledgers of its own.
 fn worked<G: Gate + Sync, R: Threads + Wait + Abort + Sync>(
     rt: &R,
     alloc: Global,
@@ -96,7 +95,7 @@ fn check_full<R: Threads + Wait + Abort + Sync>(rt: &R, alloc: Global, program: 
     check_same(rt, &found, &(true, 3, 3));
 }
 
-// A run in a history with room for three turns says why it stopped, and the seats have the turns of the history.
+// A run in a history with room for three turns tells why it stopped, and the seats have the turns of the history.
 #[test]
 fn stops_where_the_history_is_full(rt: HostRuntime) {
     let alloc = rt.alloc();
@@ -104,7 +103,7 @@ fn stops_where_the_history_is_full(rt: HostRuntime) {
     check_full(&rt, alloc, &program)
 }
 
-/// Checks that the workers stop, while this processor's is held until the others have come by twice.
+/// Checks that the workers stop while this processor's is held until the others have passed twice.
 fn check_held<R: Threads + Wait + Abort + Sync>(
     rt: &R,
     alloc: Global,
@@ -117,8 +116,8 @@ fn check_held<R: Threads + Wait + Abort + Sync>(
     check_same_at(rt, &held, &found, &(false, true, 2));
 }
 
-// A worker that stops lets the others stop too, one that waits at its gate among them: this processor's worker is held
-// until the others have come by twice, in a history with room for two turns, and doesn't give up.
+// A worker that stops lets the others stop too, even one that waits at its gate: this processor's worker is held until
+// the others have passed twice, in a history with room for two turns, and doesn't give up.
 #[test]
 fn stops_after_gates(rt: HostRuntime) {
     let alloc = rt.alloc();

@@ -1,4 +1,4 @@
-//! Gates at which one worker waits for others, and the numbers that they are passed with.
+//! Gates at which one worker waits for others, and the turn numbers passed to them.
 
 ghost use Rattle.std.specs.Prelude.{All};
 ghost use Rattle.lot_station.specs.BatonSeats.{IsSeatOf};
@@ -28,7 +28,6 @@ endscript
 fundx 10 base a spin
 ";
 
-/// The first processor in the history.
 fn first_processor(history: &[u8]) -> Option<u8> {
     history.iter().copied().find(|actor| *actor != 0)
 }
@@ -37,7 +36,7 @@ fn first_processor(history: &[u8]) -> Option<u8> {
 /// the number of turns.
 type Seen = (bool, bool, usize);
 
-/// The outcome of this run with this gate.
+/// The observations of a run with this gate.
 fn seen_of(gate: &Turnstile, history: &[u8]) -> Seen {
     let is_held_first = first_processor(history).map(u32::from) == Some(gate.held);
     (gate.gave_up(), is_held_first, history.len())
@@ -54,7 +53,7 @@ pub(super) fn freed<G: Gate + Sync, R: Threads + Wait + Abort + Sync>(
     free_run(rt, alloc, &program, gate).expect(rt, "a free run")
 }
 
-/// A free run of the program, in which this processor's worker is held until the others have come by this often.
+/// A free run of the program, in which this processor's worker is held until the others have passed this often.
 fn held_in_free_run<R: Threads + Wait + Abort + Sync>(
     rt: &R,
     alloc: Global,
@@ -67,8 +66,8 @@ fn held_in_free_run<R: Threads + Wait + Abort + Sync>(
     seen_of(&gate, system.history())
 }
 
-// A worker waits at its gate until the other has made its turns, whichever of the two is held: they run at once,
-// nothing is locked meanwhile, and each passes with its own number, since the held one doesn't come first.
+// A worker waits at its gate until the other has made its turns, whichever of the two is held. So they run at once, no
+// lock is held meanwhile, and each passes with its own number, since the held one doesn't come first.
 #[test]
 fn workers_run_at_once(rt: HostRuntime) {
     for held in 1..3u32 {
@@ -130,7 +129,7 @@ pub(super) fn baton_freed<G: Gate + Sync, R: Threads + Wait + Abort + Sync>(
     baton_run(rt, alloc, &program, gate, room)
 }
 
-/// A run of the program over a baton station, in which this processor's worker is held until the others have come by
+/// A run of the program over a baton station, in which this processor's worker is held until the others have passed
 /// this often; and whether a full history stopped it.
 fn held_in_baton_run<R: Threads + Wait + Abort + Sync>(
     rt: &R,
@@ -175,7 +174,7 @@ fn baton_workers_stop_where_the_history_is_full(rt: HostRuntime) {
     }
 }
 
-/// Counts the passes of two processors, and remembers whether one came with another number than the next.
+/// Counts the passes of two processors, and records whether one had a wrong turn number.
 #[derive(Drop)]
 struct Counting {
     first: AtomicU64,

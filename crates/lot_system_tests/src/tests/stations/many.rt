@@ -1,4 +1,4 @@
-//! As many seats as there may be, each on a thread of its own.
+//! The largest number of seats, each on a thread of its own.
 
 use crate::tests::stations::gates::{baton_freed, freed};
 use crate::tests::stations::turnstile::TRIES;
@@ -18,7 +18,7 @@ endscript
 fundx 10 base a spin
 ";
 
-/// Holds each processor's worker until those of all 64 have come, or it has looked often enough.
+/// Holds each processor's worker until those of all 64 have come, or it has checked often enough.
 #[derive(Drop)]
 struct Meeting {
     here: AtomicU64,

@@ -1,4 +1,4 @@
-//! A kill that outdates the work with which a worker waits at its gate.
+//! A kill that changes the work with which a worker waits at its gate.
 ghost use Rattle.std.specs.Prelude.{◌≡◌, ◌+◌, All, IfSome, false};
 ghost use Rattle.lot_station.specs.BatonSeats.{IsSeatOf};
 
@@ -32,8 +32,8 @@ fundx 10 base a spin
 kill a
 ";
 
-/// Holds a processor's worker before its second turn, at which the thread of its first draw runs, until the thread
-/// has been killed.
+/// Holds a processor's worker before its second turn, while the thread of its first draw runs, until the thread has
+/// been killed.
 #[derive(Drop)]
 struct Killing {
     is_here: AtomicBool,
@@ -58,7 +58,7 @@ impl Gate for Killing {
     }
 }
 
-/// Whether the flag is set before this has looked often enough.
+/// Whether the flag is set before the last check.
 fn has_come(flag: &AtomicBool) -> bool {
     for _try in 0..TRIES {
         if flag.load(Ordering::SeqCst) {
@@ -79,7 +79,7 @@ fn opened(rt: &impl Abort, alloc: Global) -> (Program, System)
     (program, system)
 }
 
-/// Makes a turn of the console, whose seat comes first; whether it was made.
+/// Makes a turn of the console, whose seat comes first. Returns whether it was made.
 fn command<T: TurnLedger, Q: Ledger, K: Ledger>(
     rt: &impl Wait,
     station: &Station<T, Q, K>,
@@ -91,7 +91,7 @@ fn command<T: TurnLedger, Q: Ledger, K: Ledger>(
     }
 }
 
-/// Makes a turn of the console once the worker is held, and lets the worker go on; whether the turn was made.
+/// Makes a turn of the console once the worker is held, and lets the worker go on. Returns whether the turn was made.
 fn kill<T: TurnLedger, Q: Ledger, K: Ledger>(
     rt: &impl Wait,
     station: &Station<T, Q, K>,
@@ -142,7 +142,7 @@ fn outdated_in<
     (is_funded && is_killed, has_run)
 }
 
-/// `outdated_in` over a station which has ledgers of its own.
+/// `outdated_in` over a station with ledgers of its own.
 fn outdated<R: Threads + Wait + Abort + Sync>(rt: &R, alloc: Global) -> (bool, bool) {
     let (program, system) = opened(rt, alloc);
     let parts = u64::from(system.processors()) + 1;
@@ -157,7 +157,7 @@ fn outdated<R: Threads + Wait + Abort + Sync>(rt: &R, alloc: Global) -> (bool, b
     )
 }
 
-// The worker has the slice of a thread that the console then kills. It makes its turn with the work that it has now.
+// The worker has the slice of a thread that the console then kills. It makes its turn with its later work.
 #[test]
 fn a_kill_outdates_a_work(rt: HostRuntime) {
     check_same(&rt, &outdated(&rt, rt.alloc()), &(true, true));
@@ -175,7 +175,7 @@ fn parted(_station: &BatonStation, mut seats: Vec<BatonSeat>) -> Option<(BatonSe
     Some((console, seats))
 }
 
-/// Makes a turn of the console once the worker is held, and lets the worker go on; whether the turn was made.
+/// Makes a turn of the console once the worker is held, and lets the worker go on. Returns whether the turn was made.
 fn baton_kill(
     rt: &impl Wait,
     station: &BatonStation,
@@ -212,7 +212,7 @@ fn baton_race<R: Threads + Wait + Sync>(
     )
 }
 
-/// As `outdated`, over a baton station.
+/// Like `outdated`, over a baton station.
 fn baton_outdated<R: Threads + Wait + Abort + Sync>(rt: &R, alloc: Global) -> (bool, bool) {
     let (program, system) = opened(rt, alloc);
     let (station, seats) = BatonStation::open(alloc, system).expect(rt, "memory");

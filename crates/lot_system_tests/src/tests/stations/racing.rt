@@ -1,4 +1,4 @@
-//! Seats in threads of their own.
+//! Seats on threads of their own.
 ghost use Rattle.std.specs.Prelude.{◌≡◌, ◌+◌, false};
 
 use crate::tests::stations::replaying::{check_replay, unanswered, unlocked};
@@ -98,7 +98,7 @@ fn race_in<
     }
 }
 
-/// A race in a new system of the program, in a station which has ledgers of its own.
+/// A race in a new system of the program, in a station with ledgers of its own.
 fn raced<R: Threads + Wait + Abort + Sync>(
     rt: &R,
     alloc: Global,

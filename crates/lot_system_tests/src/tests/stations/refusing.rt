@@ -1,4 +1,4 @@
-//! Seats that aren't one for each actor, in order.
+//! Closing with other seats than one for each actor, in order.
 ghost use Rattle.std.specs.Prelude.{◌≡◌, ◌+◌, false};
 
 use crate::tests::same::check_same;
@@ -24,7 +24,7 @@ fn turn_at<T: TurnLedger, Q: Ledger, K: Ledger, R: Wait + Abort>(
     assert!(rt; is_made);
 }
 
-/// The station and the seats, handed back since a seat is missing or out of order.
+/// The station and the seats that `close` returned, since a seat is missing or out of order.
 fn handed_back<T: TurnLedger, Q: Ledger, K: Ledger>(
     rt: &impl Abort,
     station: Station<T, Q, K>,
@@ -89,7 +89,7 @@ fn misplaced<R: Wait + Abort>(rt: &R, alloc: Global, system: System) -> System
     )
 }
 
-// A station that isn't closed is handed back with its seats, and can be used and closed; its history has both turns.
+// A failed close returns the station with its seats, which can go on and close later; the history has both turns.
 #[test]
 fn seats_are_handed_back(rt: HostRuntime) {
     let alloc = rt.alloc();

@@ -1,4 +1,4 @@
-//! The turns of a history again, by one thread.
+//! The turns of a history, made again by one thread.
 
 use crate::tests::same::check_same;
 use crate::tests::stations::{end_of, opened};
@@ -11,7 +11,7 @@ use std::sync::Mutex;
 /// The results of an actor's turns in threads, in order.
 pub(super) type Answers = Mutex<Vec<Answer>>;
 
-/// No results yet, of this many actors in threads.
+/// Empty results of this many actors in threads.
 pub(super) fn unanswered(rt: &impl Abort, alloc: Global, actors: usize) -> Vec<Answers> {
     let mut answers = Vec::new(alloc);
     for _actor in 0..actors {
@@ -22,7 +22,7 @@ pub(super) fn unanswered(rt: &impl Abort, alloc: Global, actors: usize) -> Vec<A
     answers
 }
 
-/// The results of each actor's turns, taken from under their locks.
+/// The results of each actor's turns, out of their locks.
 pub(super) fn unlocked(rt: &impl Abort, alloc: Global, answers: Vec<Answers>) -> Vec<Vec<Answer>> {
     let mut lists = Vec::new(alloc);
     for own in answers {
@@ -55,7 +55,7 @@ fn replay(
     }
 }
 
-/// No results yet, for as many actors as there are of these.
+/// Empty results, for as many actors as there are of these.
 fn none_of(rt: &impl Abort, alloc: Global, answers: &Vec<Vec<Answer>>) -> Vec<Vec<Answer>> {
     let none = unanswered(rt, alloc, answers.len());
     unlocked(rt, alloc, none)
@@ -77,7 +77,7 @@ fn replayed(
     again
 }
 
-/// Checks that the two systems end alike.
+/// Checks that the two systems end with equal output.
 fn check_ends(rt: &impl Abort, alloc: Global, system: System, again: System) {
     let end = end_of(rt, alloc, system);
     check_same(rt, &end, &end_of(rt, alloc, again));

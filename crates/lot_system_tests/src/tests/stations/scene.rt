@@ -1,4 +1,4 @@
-//! A station of a system, the use that a test makes of its seats, and the station closed.
+//! A test's use of the seats of a station.
 ghost use Rattle.std.specs.Prelude.{◌≡◌, ◌+◌, false, IfOk};
 
 use lot_engine::System;
@@ -10,9 +10,9 @@ use std::process::Abort;
 use std::sync::Wait;
 use std::sync::ledger::{Blank, Ledger};
 
-/// The use that a test makes of the seats of an open station.
+/// A test's use of the seats of an open station.
 pub(super) trait Scene {
-    /// Its observations.
+    /// The observations of the test.
     type Seen;
 
     /// Makes turns of the seats, which are all of the station's, in order.

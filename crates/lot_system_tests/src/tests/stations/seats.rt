@@ -1,5 +1,5 @@
-//! Turns of seats, and what a seat has. They stand among the tests, since the crate would prove
-//! them a second time as a library.
+//! Turns of seats, and the shares of a seat. They are among the tests, since the crate would prove them a second time
+//! as a library.
 ghost use Rattle.std.specs.Prelude.{◌≡◌};
 ghost use Rattle.lot_station.specs.BatonSeats.{IsSameSeat, seat_counts};
 
@@ -12,7 +12,6 @@ use std::sync::ledger::Ledger;
 /// A seat's turns, quanta and ticks.
 pub(crate) type Shares = (u64, u64, u64);
 
-/// The seat's shares.
 pub(crate) fn shares_of<T: TurnLedger, Q: Ledger, K: Ledger>(seat: &Seat<T, Q, K>) -> Shares
     ensures { (result.0 ≡ seat.now.turns) × (result.1 ≡ seat.now.quanta) × (result.2 ≡ seat.now.ticks) }
 {

@@ -80,7 +80,7 @@ impl<'a> Scene for Actors<'a> {
     }
 }
 
-/// Whether the session was this: each seat's shares, the replies, and each seat's shares again.
+/// Whether the session had these: each seat's shares, the replies, and each seat's shares at the end.
 fn was(
     session: &Result<Session, AllocError>,
     begun: &[Shares],
@@ -125,7 +125,7 @@ fn check_played<R: Wait + Abort>(rt: &R, alloc: Global, program: &Program) {
     check_end(rt, alloc, closed)
 }
 
-// A draw that a seat makes is of what another seat's command made.
+// A seat's draw sees the thread that another seat's command made.
 #[test]
 fn write_then_read(rt: HostRuntime) {
     let alloc = rt.alloc();
@@ -160,7 +160,7 @@ fn last_session<R: Wait + Abort>(
     session
 }
 
-// A closed system that is opened again goes on, and its seats begin with what its history has.
+// A closed system can be opened again, and its seats begin with the counts of its history.
 #[test]
 fn opens_again(rt: HostRuntime) {
     let alloc = rt.alloc();
@@ -178,7 +178,7 @@ fn open_or_lack_memory<R: Wait + Abort>(rt: &R, alloc: Global, program: &Program
     }
 }
 
-// For runs in which one allocation is refused: a station is opened and closed, or memory for it is refused.
+// For runs in which one allocation fails: the station opens and closes, or `open` lacks memory.
 #[test]
 fn opens_or_lacks_memory(rt: HostRuntime) {
     let alloc = rt.alloc();

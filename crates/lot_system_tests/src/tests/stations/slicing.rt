@@ -1,4 +1,4 @@
-//! A slice twice.
+//! A slice used twice.
 
 use crate::tests::same::check_same;
 use crate::tests::stations::scene::{Scene, played_in};
@@ -42,7 +42,7 @@ fn copied(work: &Work) -> Work {
     }
 }
 
-/// A draw, and then the slice of the thread that won, which locks: where it ended, and its work.
+/// A draw, and then the slice of the winner, which locks. Returns its end, and its work.
 fn lock<T: TurnLedger, Q: Ledger, K: Ledger, R: Wait + Abort>(
     rt: &R,
     program: &Program,
@@ -64,7 +64,7 @@ fn check_made(rt: &impl Abort, is_made: bool) {
     assert!(rt; is_made);
 }
 
-/// The work that the slice of this work is refused with.
+/// The work in the `Stale` fault of the slice of this work.
 fn refused<T: TurnLedger, Q: Ledger, K: Ledger, R: Wait + Abort>(
     rt: &R,
     program: &Program,
@@ -79,7 +79,7 @@ fn refused<T: TurnLedger, Q: Ledger, K: Ledger, R: Wait + Abort>(
     }
 }
 
-/// Whether the slice of this work finds the history full.
+/// Whether the slice of this work fails with a full history.
 fn finds_full<T: TurnLedger, Q: Ledger, K: Ledger, R: Wait + Abort>(
     rt: &R,
     program: &Program,
@@ -92,8 +92,8 @@ fn finds_full<T: TurnLedger, Q: Ledger, K: Ledger, R: Wait + Abort>(
     matches!(turn, Err(TurnFault::HistoryFull))
 }
 
-/// A draw, and then the slice of the thread that won, twice: the second is refused with the work after it, and changes
-/// no shares, and the right slice then finds the history full.
+/// A draw, and then the slice of the winner, twice. The second use fails with the work after it, and changes no shares.
+/// The right slice then finds the history full.
 fn use_twice<T: TurnLedger, Q: Ledger, K: Ledger, R: Wait + Abort>(
     rt: &R,
     program: &Program,
@@ -138,8 +138,8 @@ fn check_twice<R: Wait + Abort>(rt: &R, alloc: Global, program: &Program) {
     check_same(rt, &closed.history(), &[0, 1, 1].as_slice());
 }
 
-// A slice that was used is stale: the work is then after its trap, and neither history nor shares change. The system
-// has room for three turns, and its history is the three turns made.
+// A used slice is stale: the work is after its trap, and neither history nor shares change. The system has room for
+// three turns, and its history is the three turns made.
 #[test]
 fn a_slice_twice(rt: HostRuntime) {
     let alloc = rt.alloc();

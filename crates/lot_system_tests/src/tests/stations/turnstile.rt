@@ -1,4 +1,4 @@
-//! A gate that holds one worker back.
+//! A gate that holds one worker.
 
 use lot_processors::Gate;
 use std::sync::atomic::{AtomicBool, AtomicU64, Ordering};
@@ -7,19 +7,19 @@ use std::thread;
 /// The number of times that a held worker checks whether it may go on.
 pub(super) const TRIES: u32 = 10_000_000;
 
-/// Holds a processor's worker back until the other processors' have come by as often as is wanted, or it has looked
-/// often enough. With no processor of this number it holds none.
+/// Holds a processor's worker until the other processors' workers have passed this often, or it has checked often
+/// enough. With no processor of this number it holds none.
 #[derive(Drop)]
 pub(super) struct Turnstile {
     pub(super) held: u32,
     wanted: u64,
-    /// The number of times that others came by.
+    /// The number of passes of other workers.
     others: AtomicU64,
     gave_up: AtomicBool,
 }
 
 impl Turnstile {
-    /// One that holds this processor's worker, until others have come by this often.
+    /// A gate that holds this processor's worker until others have passed this often.
     pub(super) fn new(held: u32, wanted: u64) -> Turnstile {
         Turnstile {
             held,
@@ -29,7 +29,7 @@ impl Turnstile {
         }
     }
 
-    /// Whether the worker went on though the others hadn't come by.
+    /// Whether the worker went on before the others had passed.
     pub(super) fn gave_up(&self) -> bool {
         self.gave_up.load(Ordering::SeqCst)
     }

@@ -1,23 +1,15 @@
-use Rattle.lot_text.proofs.Lemmas.{Gives-refusal, List, Ok, Reading, header_line, number_alone, reading_of, refl, with_settings, ℕ, [], ◌>>=◌, ◌∷◌, ◌≡◌}
-use Rattle.lot_simulation.specs.declared.input.HeaderWord.TheVariants as header
+use Rattle.lot_text.proofs.Lemmas.{Gives-refusal, reading_of, refl, with_settings}
 use Rattle.lot_text.proofs.header.read_turns.Goals as goal
-
--- the number of the line is its only token
-alone : (r : Reading) (tokens : List (List ℕ))
-    → header_line r header.Turns tokens ≡ (number_alone 0 10000 tokens >>= λ n. Ok (record r { turns = n }))
-alone r [] = refl
-alone r (token ∷ []) = refl
-alone r (token ∷ other ∷ tokens) = refl
 
 pub returns-in_err-reading-inside : goal.returns-in_err-reading-inside
 returns-in_err-reading-inside c =
     Gives-refusal _ c.from_residual.result c.in_err-reading-inside.field-0.0 _ c.from_residual.ensures
-    (rw (alone c.args.reading.now c.args.tokens, ← c.in_err-reading-inside.ensures.read) refl)
+    (rw (← c.in_err-reading-inside.ensures.read) refl)
 
 pub invariant_of-reading : goal.invariant_of-reading
 invariant_of-reading c =
-    with_settings (reading_of c.reading.inside) c.reading.inside.quantum c.in_ok-reading-inside.field-0 c.reading.inside.reuse c.reading.inside.strict
+    with_settings (reading_of c.reading.inside) c.reading.inside.quantum c.in_ok-reading-inside.field-0
     c.reading.invariant c.reading.invariant.sizes.quantum_length c.in_ok-reading-inside.ensures.between.1
 
 pub returns : goal.returns
-returns c = rw (alone c.args.reading.now c.args.tokens, ← c.in_ok-reading-inside.ensures.read, ← c.reading.view_is) refl
+returns c = rw (← c.in_ok-reading-inside.ensures.read, ← c.reading.view_is) refl

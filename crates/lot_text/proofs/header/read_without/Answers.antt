@@ -1,5 +1,6 @@
-use Rattle.lot_text.proofs.Lemmas.{BadHeader, BadLine, Bool, Err, Gives-refusal, List, Reading, alone-refused, ap, bytes_eq, checked, codes, false, header_line, if◌then◌else◌, not, reading_of, refl, sym, true, with_without, without_line, ℕ, [], ◌∙◌, ◌∷◌, ◌≡◌}
+use Rattle.lot_text.proofs.Lemmas.{BadHeader, BadLine, Bool, Err, Gives-refusal, List, Reading, alone-refused, ap, bytes_eq, checked, codes, false, header_line, if◌then◌else◌, not, reading_of, refl, sym, true, without_line, ℕ, [], ◌∙◌, ◌∷◌, ◌≡◌}
 use Rattle.lot_simulation.specs.declared.input.HeaderWord.TheVariants as header
+use Rattle.lot_text.proofs.ReadingLemmas.{with_options}
 use Rattle.lot_text.proofs.header.read_without.Goals as goal
 
 -- only a timed input has such a line
@@ -7,8 +8,8 @@ untimed : (r : Reading) (mechanism : List ℕ) → r.is_timed ≡ false → with
 untimed r mechanism is = at (bytes_eq mechanism (codes "compensation")) (bytes_eq mechanism (codes "lending"))
   where
     at : (first second : Bool)
-        → (if first then checked ((not r.is_timed, BadLine) ∷ (r.without_compensation, BadHeader) ∷ []) (record r { without_compensation = true })
-        else if second then checked ((not r.is_timed, BadLine) ∷ (r.without_lending, BadHeader) ∷ []) (record r { without_lending = true })
+        → (if first then checked ((not r.is_timed, BadLine) ∷ (r.options.without_compensation, BadHeader) ∷ []) (record r { options = record r.options { without_compensation = true } })
+        else if second then checked ((not r.is_timed, BadLine) ∷ (r.options.without_lending, BadHeader) ∷ []) (record r { options = record r.options { without_lending = true } })
         else Err BadLine) ≡ Err BadLine
     at true second = rw is refl
     at false true = rw is refl
@@ -22,10 +23,10 @@ returns-in_err-mechanism c =
     Gives-refusal _ c.from_residual.result c.in_err-mechanism.field-0.0 _ c.from_residual.ensures other
 
 pub invariant_of-reading : goal.invariant_of-reading
-invariant_of-reading c = with_without (reading_of c.reading.inside) true c.reading.inside.without_lending c.reading.invariant
+invariant_of-reading c = with_options (reading_of c.reading.inside) (record c.reading.inside.options { without_compensation = true }) c.reading.invariant
 
 pub invariant_of-reading-then-eq-2 : goal.invariant_of-reading-then-eq-2
-invariant_of-reading-then-eq-2 c = with_without (reading_of c.reading.inside) c.reading.inside.without_compensation true c.reading.invariant
+invariant_of-reading-then-eq-2 c = with_options (reading_of c.reading.inside) (record c.reading.inside.options { without_lending = true }) c.reading.invariant
 
 pub returns-then-not-is_timed : goal.returns-then-not-is_timed
 returns-then-not-is_timed c =

@@ -1,4 +1,4 @@
--- One more seed is the next of the generator, and is one of its values.
+-- One more seed is the next of the generator, and one of its values.
 use Rattle.lot_text.proofs.Common.{All, All-append, All-replicate, IsBetween, IsSeed, List, ap, arith, length, length-append, map, map-range_with_len_more, mixed_seed, range_with_len, rules, subst, suc, sym, ℕ, [], ◌%◌, ◌*◌, ◌++◌, ◌+◌, ◌∙◌, ◌∷◌, ◌≡◌}
 use Rattle.lot_text.proofs.reading.mixed_seeds.Goals as goal
 

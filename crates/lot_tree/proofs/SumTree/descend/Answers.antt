@@ -1,4 +1,4 @@
--- Each level narrows the places to one half, and counts its read.
+-- Each level halves the range of places, and counts its read.
 use Rattle.lot_tree.proofs.Lemmas.{CountsReads-from_IsCounted, IsCounted_read, IsCounted_short, IsDrawn-from_IsNarrowed, IsNarrowed_left, IsNarrowed_right, IsNarrowed_short, arith, inr, le-leb, left-within, length, lt-leb, pow_pos, short-block, whole-block, whole-half, ◌%◌, ◌*◌, ◌+◌, ◌-◌, ◌<◌, ◌^◌, ◌≡◌, ◌≤◌}
 use Rattle.lot_tree.proofs.SumTree.descend.Goals as goal
 use Rattle.lot_tree.proofs.SumTree.descend.Goals.{then-is_past, else-is_past, then-is_whole-via-then-is_whole, then-is_whole-via-else-is_whole+then-block-n}

@@ -1,4 +1,4 @@
--- A handle may go to another thread where a kernel may.
+-- A handle may go to another thread if a kernel may.
 use Rattle.lot_c.proofs.Common.{AllSend, Exit, Global, IsSend, KernelValue, Keyless, None, Ptr, Quiet, RattleType, Some, block_ptr, exits_of, fields, full_share, handle_owns, hidden, leaves, lies_at, lone, null_ptr, owning_send, part_keyless, sendable, shape, struct_send, the_row, the_type, to, unchanged, under}
 use mir.Raw.{raw}
 use Rattle.std.proofs.Crossing as heap

@@ -1,4 +1,4 @@
--- `empty` makes a null pointer, at which nothing is owned.
+-- `empty` makes a null pointer, which owns nothing.
 use Rattle.lot_c.proofs.Lemmas.{E, Fun, Goes-dropped, Item, List, Logic, Memory, None, P, Routine, SProp, Slot, Stays, Tables, Ura, Val, WpFn, WpFn-mono, agg, alloc_all, and_then, by, done, drop, emp, ends_at, ent, enter, entered, fjoin, free_all, fsep, fsplit, ftrue, get, handle_in, handle_tells, held, join, lit, look_at, move, no_more, nothing, null_ptr, null_typed, null_word, pass_all, plain, qed, raw, refl, returns, says, sets, split, stay_dropped, subst, suffices, sym, tables, triple_of, type_at, use1, walk_Meets, walk_of, yes, !, [], ‵, ◌$◌, ◌++◌, ◌∵◌, ◌∷◌, ◌⊛◌}
 use contract.Running.{tables_of}
 use Rattle.std.specs.contracts.alloc.Global as Heap

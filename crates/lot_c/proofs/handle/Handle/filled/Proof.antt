@@ -1,4 +1,4 @@
--- `filled` moves two fields, and what they own goes with them.
+-- `filled` moves two fields, and their ownership with them.
 use Rattle.lot_c.proofs.Lemmas.{B, D, E, Fun, Goes-dropped, Item, List, Logic, Memory, Routine, SProp, Some, Stays, Tables, Ura, Val, WpFn, WpFn-mono, agg, alloc_all, and_then, box_in, box_out, box_typed, by, done, drop, emp, ends_at, ent, enter, entered, fjoin, fld, free_all, fsep, fsplit, ftrue, get, get_in, id⊢, join, look_at, move, no_more, nothing, of_opd, pass_all, qed, raw, refl, returns, says, sets, split, stay_dropped, stop, sub, subst, suffices, sym, tables, triple_of, type_at, use1, walk_Meets, walk_of, whole, word, yes, !, [], ‵, ◌$◌, ◌++◌, ◌∵◌, ◌∷◌, ◌⊛◌}
 use contract.Running.{tables_of}
 use Rattle.lot_c.proofs.Handles.{FromParts as From}

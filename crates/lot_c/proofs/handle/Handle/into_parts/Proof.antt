@@ -1,4 +1,4 @@
--- `into_parts` compares the pointer with null: what the handle owns stands there, or nothing does.
+-- `into_parts` compares the pointer with null: the handle's possession is there, or nothing is.
 use Rattle.lot_c.proofs.Lemmas.{D, E, FromParts-row, Fun, Goes-dropped, Good, Item, List, Logic, Memory, None, P, Routine, SProp, Some, Some-of, Stays, Tables, Ura, Val, WpFn, WpFn-mono, after, agg, alloc_all, and_then, and_tt, at_ret, bin, block_ptr, box_in, box_owns, box_typed, branches, by, done, drop, emp, ends_at, ent, enter, entered, env, exec, first, fjoin, fld, free_all, fsep, fsplit, ftrue, get, get_in, ghosts, handle_out, held, id⊢, join, layout, lit, lit<, live, look_at, move, no_more, none_of, nothing, null_typed, null_word, of_opd, pass_all, qed, raw, refl, returns, says, sets, sets_last, split, stay_dropped, stop, sub, subst, suffices, sym, tables, tests_null, triple_of, type_at, use0, use1, vcons, vnil, walk_Meets, walk_of, whole, word, yes, !, [], ‵, ◌$◌, ◌++◌, ◌∵◌, ◌∷◌, ◌⊛◌}
 use contract.Running.{tables_of}
 use Rattle.lot_kernel.specs.contracts.kernel.Kernel as kernel

@@ -1,4 +1,4 @@
--- `is_empty` compares the pointer with null where it lies, and leaves the handle as it was.
+-- `is_empty` compares the pointer with null in place, and leaves the handle unchanged.
 use Rattle.lot_c.proofs.Lemmas.{Bool, Clauses, D, E, Fun, Goes-ref, List, Logic, Memory, MutRef, Routine, SProp, Some, Stays, Tables, Ura, Val, WpFn, WpFn-mono, alloc_all, bin, block_ptr, box_in, by, cell_at, closes, done, drop, emp, ends_at, ent, enter, entered, false, fbor, feq_i, fjoin, fjoin3, fld, flft, fobs, frame, free_all, fsplit, fsplit3, ftrue, full_share, get, handle_in, handle_out, held, id⊢, is_none, join, keep, lit, lit<, load, look_at, look_in, mem, move, mut_Tells, mut_vals, named, nothing, null_word, of_opd, opens, owns, pass_all, plain, qed, raw, refl, returns, rewrite, says, sep, sets, split, stay_ref, stop, sub, suffices, sym, tables, tests_null, through, triple_of, true, use1, vbool, vptr, walk_Meets, walk_of, walked, whole, word, !, [], ‵, ◌$◌, ◌∵◌, ◌∷◌, ◌≡◌, ◌⊛◌}
 use types.SemTy.{Body as Borrowed}
 use contract.Running.{tables_of}

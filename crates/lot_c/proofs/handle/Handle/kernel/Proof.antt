@@ -1,4 +1,4 @@
--- `kernel` lends the kernel where it is, and the handle follows it.
+-- `kernel` lends the kernel in place, and the handle follows it.
 use Rattle.lot_c.proofs.Lemmas.{Body, Clauses, D, E, Env, Fml, Fun, GName, Goes-spent_ref, List, Logic, Memory, MutBor, MutRef, P, Part, Routine, SProp, Some, Stays, Tables, Ura, Val, WpFn, WpFn-mono, addr, alloc_all, assign, at_ret, await, block_ptr, blocks, box_in, by, cell_at, copy, done, drop, ends_at, ent, enter, entered, env, exec, fact, false, first, fjoin, fld, flft, follows, fpack, frame, free_all, fsep, fsplit, fsplit3, ftrue, full_share, get, ghosts, group, handle_out, heard, id⊢, is-filled, is_none, join, keep, later, lends_Part, load, lone, look_at, look_in, mem, move, mut_Tells, mut_ref_to, mut_vals, named, no, nothing, of_opd, opens, owns, part_at, pass_all, pick, place, plain, qed, raw, refl, return, returns, rewrite, rv_opd, says, sem, sep, seq, sets, sets_last, some, split, stay_dropped, stop, sub, suffices, tables, through, triple_of, use1, vptr, walk_Meets, walk_of, walked, whole, with_kernel, word, ℕ, !, [], ‵, ◌$◌, ◌∵◌, ◌∷◌, ◌≡◌, ◌⊛◌}
 use mir.Raw.{raw as bare}
 use contract.Running.{tables_of}

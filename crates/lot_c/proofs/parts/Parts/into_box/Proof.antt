@@ -1,4 +1,4 @@
--- `into_box` hands what the parts own to `from_raw`.
+-- `into_box` passes the parts' ownership to `from_raw`.
 use Rattle.lot_c.proofs.Common.{B, Body, Bx, Clauses, Contract, D, Ended, Fn, Fun, Goes-blank, Item, List, Logic, Memory, P, R, RattleType, Routine, SProp, Stays, T, Tables, Triple, Ura, Val, WT, WpFn, WpFn-mono, alloc_all, and_then, ap, args, assign, at_ret, await, block_ptr, blocks, box_in, box_out, box_owns, box_ty, box_typed, by, calls_at_last, copy, done, drop, ends_at, ent, enter, entered, env, exec, fact, feq_i, first, fjoin, fld, flft, fm_of, free_all, fsep, fsplit, ftrue, get, get_in, has_ty, heard, id⊢, inst_fn, join, lands_last, later, look_at, move, no, no_more, nothing, of_opd, only, pass_all, pick, place, plain, qed, raw, refl, return, returns, rewrite, rv_opd, says, seq, sets, some, split, split3, stay_dropped, stop, sub, subst, suffices, sym, tables, token, triple_of, use1, vptr, walk_Meets, walk_of, whole, word, !, [], ‵, ◌$◌, ◌++◌, ◌∵◌, ◌∷◌, ◌≡◌, ◌⊑◌, ◌⊛◌}
 use contract.Running.{tables_of}
 use Rattle.lot_c.specs.contracts.parts.Parts as parts

@@ -1,4 +1,4 @@
--- A reader's handle may go to another thread where several threads may read a kernel.
+-- A reader's handle may go to another thread if several threads may read a kernel.
 use Rattle.lot_c.proofs.Common.{AllSend, Common, Exit, IsSend, KernelValue, Keyless, None, Ptr, Quiet, Some, block_of, block_ptr, count_of, exits_of, fields, ftrue, handle_shares, hidden, in_block, leaves, null_ptr, owning_send, sendable, shape, struct_send, to, unchanged, under, [], ◌∷◌}
 use Rattle.lot_kernel.proofs.kernel.Kernel.TheSendSync.{the_sync as kernel_sync}
 use Rattle.lot_c.specs.contracts.reader.ReadHandle.{the_row, the_type}

@@ -1,4 +1,4 @@
--- `reader` sees the handle where it lies as a reader.
+-- `reader` sees the handle as a reader, in place.
 use Rattle.lot_c.proofs.Common.{Body, Clauses, Env, Fun, GName, Goes-spent_ref, List, Logic, Memory, MutBor, MutRef, Part, Routine, SProp, Stays, Tables, Ura, Val, WpFn, WpFn-mono, addr, alloc_all, assign, at_ret, await, blocks, by, cell_at, copy, done, drop, emp, ends_at, ent, enter, entered, env, exec, first, fjoin, flft, follows, fpack, frame, free_all, fsep, fsplit, fsplit3, ftrue, full_share, get, group, handle_of, id⊢, join, keep, later, lends_Part, look_at, mem, move, mut_Tells, mut_ref_to, mut_vals, named, no, nothing, of_opd, opens, owns, part_at, pass_all, pick, place, plain, qed, raw, reader_of, refl, return, returns, rv_opd, says, sem, sep, seq, sets, sets_last, some, split, stay_dropped, stop, suffices, tables, through, triple_of, use1, vptr, walk_Meets, walk_of, walked, ℕ, !, [], ‵, ◌$◌, ◌∵◌, ◌∷◌, ◌⊛◌}
 use contract.Running.{tables_of}
 use denote.Memory.{part_of}

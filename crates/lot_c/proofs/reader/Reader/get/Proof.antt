@@ -1,4 +1,4 @@
--- `get` reads the pointer through the reference, and what the reference shares lies there, or nothing does.
+-- `get` reads the pointer through the reference: the shared kernel is there, or nothing is.
 use Rattle.lot_c.proofs.Common.{Body, Bor, Clauses, Env, Fun, Goes-dropped, Good, InBlock, KernelValue, Lft, List, Logic, Memory, None, Ptr, RattleType, RawPtr, RawPtr-laws, RefOf, Routine, SProp, ShrRef, Some, Some-of, Stays, Struct, Tables, Ura, Val, Wp, WpFn, WpFn-mono, addr, after, after_seq, agg, aggregate, alloc_all, and_then, any_q, assign, at_ret, at_return, bin, block_ptr, blocks, branches, by, cell_at, coded_ptr, copy, done, drop, emp, ends_at, ent, enter, entered, env, exec, fact, feq_i, feq_l, fhide, first, fjoin, fld, flft, fpick, free_all, fsplit, ftrue, get, handle_shares, heard, hidden_shr, hide, in_block_says, int, join, keep, layout, lent_out, lit, lit<, live, load, look, look_at, looks, move, named, no_more, none_of, nothing, null_ptr, of_opd, owns, pass_all, place, plain, plain_Copied, ptr_own, ptr_val, qed, raw, rawptr_pure, refl, returns, rewrite, rv_opd, says, sem, sep, seq, sets, sets_last, shape, shr_Tells, shr_vals, shuts, split, stay_dropped, stop, suffices, tables, tests_null, through, triple_of, ty_ptr, type_at, unhide, use0, use1, vcons, vnil, vptr, w8, walk_Meets, walk_of, walked, yes, ℕ, !, [], ‵, ◌$◌, ◌+◌, ◌∵◌, ◌∷◌, ◌≡◌, ◌⊛◌}
 use contract.Running.{tables_of}
 use Rattle.lot_kernel.specs.contracts.kernel.Kernel as kernel

@@ -44,5 +44,5 @@ returns-clause-ok c turns made first just (by, noted, searched, name, stopped) =
         commands_are = commands-noted c.args.program.now turns made turn c.args.system.now just c.args.self.now.commands.items c.push_command.new.commands.items noted.commands_are c.in_ok-push_command.ensures;
       },
       name,
-      c.note.ensures.stopped ∙ stopped,
+      c.note_turn.ensures.stopped ∙ stopped,
     )

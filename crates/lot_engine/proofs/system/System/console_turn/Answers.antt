@@ -1,4 +1,4 @@
--- The command is the next one, and what is held then is what the world comes to.
+-- The command is the next one, and the fields then represent the world after it.
 use Rattle.lot_engine.proofs.Lemmas.{Answered, IsInOrder, Seen, ap, arith, command-answer, command-held, command-left, command-made, command-next, console-more, kept-made, length, next_name, refl, resolved, run-in-order, subst, sym, system_run, system_turn, tickets_after, turns_made, world_of, ◌∙◌, ◌≡◌}
 use Rattle.lot_machine.specs.declared.event.Event.TheVariants as event
 use Rattle.lot_engine.proofs.system.System.console_turn.Goals as goal

@@ -1,4 +1,4 @@
--- Without a timer the actors are the console and processors, so they are printed as they are.
+-- Without a timer the actors are the console and processors, which are printed unchanged.
 use Rattle.lot_engine.proofs.Lemmas.{Seen, ap, map, min, shown-own, shown_history, ◌+◌, ◌∙◌}
 use Rattle.lot_engine.proofs.system.System.history.Goals as goal
 

@@ -1,4 +1,4 @@
--- The thread on a processor is one of those whose places are kept, and it wasn't removed.
+-- The thread on a processor has a place in the table, and wasn't removed.
 use Rattle.lot_engine.proofs.Lemmas.{IsScript, ap, arith, at-lengths, is_some, refl, runner-scripted, script-there, script_lines, subst, sym, system_run, work-is, ◌-◌, ◌∙◌, ◌≡◌, ◌≤◌}
 use Rattle.lot_engine.proofs.system.System.kept_work.Goals as goal
 

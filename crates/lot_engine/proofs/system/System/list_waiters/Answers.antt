@@ -1,4 +1,4 @@
--- Who waits isn't dead, so it wasn't removed.
+-- A waiting thread isn't dead, so it wasn't removed.
 use Rattle.lot_engine.proofs.Lemmas.{All, HasRow, IsInOrder, State, run-in-order, subst, sym, waiters-rows}
 use Rattle.lot_engine.proofs.system.System.list_waiters.Goals as goal
 

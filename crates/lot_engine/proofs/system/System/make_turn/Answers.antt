@@ -1,4 +1,4 @@
--- The event is the one of the slice of the work, and what is held then is what the world comes to.
+-- The event is that of the work's slice, and the fields then represent the world after it.
 use Rattle.lot_engine.proofs.Lemmas.{Answered, Seen, ap, arith, at_number, given-event, if◌then◌else◌, length, number_from, processor-more, seed_from, set_number, subst, system_run, system_turn, takes_number, turn-answer, turn-held, turn-names, turns_made, unwrap_or, world_of, ◌<◌, ◌∙◌, ◌≡◌}
 use Rattle.lot_engine.proofs.system.System.make_turn.Goals as goal
 

@@ -1,4 +1,4 @@
--- The place that moves on is that of the work, and what is held then is what the world comes to.
+-- The place that advances is the work's, and the fields then represent the world after it.
 use Rattle.lot_engine.proofs.Lemmas.{Answered, Fits, Seen, ap, arith, at_number, if◌then◌else◌, length, number_from, place_of, processor-more, run-answer, run-held, run-names, run-sleeper, seed_from, set_number, sleeper_by, sleeper_on, subst, sym, system_run, system_turn, takes_number, thread-kept, turns_made, unwrap_or, work-kept, world_of, ◌∙◌, ◌≡◌}
 use Rattle.lot_engine.proofs.system.System.run_turn.Goals as goal
 

@@ -1,4 +1,4 @@
--- Where there is no row, the thread was never made, or it was removed.
+-- Without a row, the thread was never made, or it was removed.
 use Rattle.lot_engine.proofs.Lemmas.{IsInOrder, State, false, gone-idle, is_live, live_of, run-in-order, subst, sym, ◌∙◌, ◌≡◌}
 use Rattle.lot_engine.proofs.system.System.thread_row.Goals as goal
 

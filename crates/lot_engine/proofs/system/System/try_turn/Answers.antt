@@ -1,4 +1,4 @@
--- What isn't the slice of the work isn't the slice of any work of the actor: there is one.
+-- A slice of another work than the actor's is no slice of the actor's, which has exactly one.
 use Rattle.lot_engine.proofs.Lemmas.{IsFresh, Matches, Seen, fresh-matches, refl, subst, sym, true, ◌≡◌}
 use Rattle.lot_engine.proofs.system.System.try_turn.Goals as goal
 

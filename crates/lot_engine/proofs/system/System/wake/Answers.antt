@@ -1,4 +1,4 @@
--- The timer's turn leaves the threads' places and the counters of the others.
+-- The timer's turn leaves the threads' places and the other actors' counters.
 use Rattle.lot_engine.proofs.Lemmas.{Answered, IsPlayed, List, Seen, State, after_turn, ap, arith, length, played-after, step, subst, sym, system_run, timer-more, timer_for, turn_in, wake-answer, ℕ, [], ◌++◌, ◌+◌, ◌∙◌, ◌∷◌, ◌≡◌}
 use Rattle.lot_machine.specs.declared.event.Event.TheVariants as event
 use Rattle.lot_engine.proofs.system.System.wake.Goals as goal

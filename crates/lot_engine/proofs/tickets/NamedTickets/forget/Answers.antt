@@ -1,4 +1,4 @@
--- An item is written only if it is the ticket's number.
+-- Only an item with the ticket's number is written.
 use Rattle.lot_engine.proofs.Common.{arith, drop, eq-eqb, false, get_or, get_or_from_slice_get, if◌then◌else◌, length, map_over_more, ne_eqb, refl, set, slice_get-get_or, sym, take, without_ticket, ℕ, ◌++◌, ◌+◌, ◌==◌, ◌∙◌, ◌≡◌}
 use Rattle.lot_engine.proofs.tickets.NamedTickets.forget.Goals.{then-from-ticket, else-from-ticket}
 use Rattle.lot_engine.proofs.tickets.NamedTickets.forget.Goals as goal

@@ -1,5 +1,5 @@
 use Rattle.lot_kernel.proofs.Lemmas.{HasNoCycle, IfSome, IsLive, List, NoPort, Outcome, QueueLists, Record, State, Threaded, ap, arith, call, call-done, call-idle, call-keeps, call-takes, freed_in, funding_of, keeps-both, length, live_in, not, port-leaves, ports-state, refl, refused-shows, runner-nowhere, running-there, served-shows, sizes_of, subst, sym, taker, the_view, untied-still, ◌∙◌}
-use Rattle.lot_machine.specs.declared.action.Action.TheVariants as action
+use Rattle.lot_machine.specs.declared.trap.Trap.TheVariants as action
 use Rattle.lot_kernel.proofs.tables.Tables.call.Goals as goal
 
 pub call-effect-requires-clause-nowhere : goal.call-effect-requires-clause-nowhere

@@ -1,4 +1,4 @@
--- what the lends that are left lead to is what those of the lender do
+-- the lends left lead to the same threads as those of the lender
 use Rattle.lot_kernel.proofs.Common.{lends_lead, lends_lead_within, length, without_servers, ◌-◌, ◌≡◌}
 use Rattle.lot_kernel.proofs.tables.Tables.leads_past_ports.Given as goal
 

@@ -1,4 +1,4 @@
--- the ports from the place on are to be left, and nothing but servers has changed
+-- the ports from this place on are left to do, and only servers have changed
 use Rattle.lot_kernel.proofs.Lemmas.{AreGone, holders_from, left_by, length, ◌==◌, ◌≤◌}
 use Rattle.lot_kernel.proofs.tables.Tables.leave_ports.Given as goal
 

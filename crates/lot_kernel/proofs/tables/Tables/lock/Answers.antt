@@ -1,5 +1,5 @@
 use Rattle.lot_kernel.proofs.Lemmas.{Contains, HasHolders, MakesStale, None, QueueLists, Snapshot, State, Threaded, ap, before_lock, cut-queues, cut-runs, cut-there, freed_in, held-mutexes, holders-lock, keeps-both, length, lock, lock-count, lock-there, makes-held, makes-locked, mutexes-state, nowhere-running, sizes_of, snapshot_of, subst, sym, the_view, trap_refusal, ◌∙◌, ◌≡◌}
-use Rattle.lot_machine.specs.declared.action.Action.TheVariants as action
+use Rattle.lot_machine.specs.declared.trap.Trap.TheVariants as action
 use Rattle.lot_kernel.proofs.tables.Tables.lock.Goals as goal
 
 pub lock-requires-clause-nowhere : goal.lock-requires-clause-nowhere

@@ -1,5 +1,5 @@
 use Rattle.lot_kernel.proofs.Lemmas.{IfSome, IsLive, List, NoPort, Outcome, QueueLists, Record, Running, Threaded, ap, arith, freed_in, keeps-both, length, live-status, live_in, not, port-leaves, receive, receive-done, receive-keeps, receive-queues, receive-takes, refl, refused-shows, runner-nowhere, running-there, runs-still, served-shows, sizes_of, subst, sym, taker, the_view, ◌∙◌}
-use Rattle.lot_machine.specs.declared.action.Action.TheVariants as action
+use Rattle.lot_machine.specs.declared.trap.Trap.TheVariants as action
 use Rattle.lot_kernel.proofs.tables.Tables.receive.Goals as goal
 
 pub receive-effect-requires-clause-nowhere : goal.receive-effect-requires-clause-nowhere

@@ -1,5 +1,5 @@
 use Rattle.lot_kernel.proofs.Lemmas.{NothingToReply, QueueLists, Threaded, ap, arith, freed_in, keeps-both, port-leaves, port-shows, refl, refused-shows, reply-done, reply-keeps, running-there, sizes_of, sym, the_view}
-use Rattle.lot_machine.specs.declared.action.Action.TheVariants as action
+use Rattle.lot_machine.specs.declared.trap.Trap.TheVariants as action
 use Rattle.lot_kernel.proofs.tables.Tables.reply.Goals as goal
 
 pub reply-requires-clause-server : goal.reply-requires-clause-server

@@ -1,5 +1,5 @@
 use Rattle.lot_kernel.proofs.Lemmas.{IfSome, IsLive, List, NoPort, NothingToReply, Outcome, QueueLists, Record, Running, Threaded, ap, arith, freed_in, keeps-both, length, live-status, live_in, not, port-leaves, refl, refused-shows, runner-nowhere, running-there, runs-still, serve, serve-done, serve-keeps, serve-queues, serve-takes, served-shows, sizes_of, subst, sym, taker, the_view, ◌∙◌}
-use Rattle.lot_machine.specs.declared.action.Action.TheVariants as action
+use Rattle.lot_machine.specs.declared.trap.Trap.TheVariants as action
 use Rattle.lot_kernel.proofs.tables.Tables.serve.Goals as goal
 
 pub serve-effect-requires-clause-nowhere : goal.serve-effect-requires-clause-nowhere

@@ -1,5 +1,5 @@
 use Rattle.lot_kernel.proofs.Lemmas.{Effect, HasHolders, IsThere, MutexTrap, NoMutex, NotOwner, QueueLists, Snapshot, Some, Threaded, ap, false, freed_in, held, held-mutexes, holders-unlock, is_no_mutex, keeps-both, length, makes-held, mutex_at, mutexes-state, nat_eq, not, not-owner, of_mutexes, option_eq, owns, refl, refused-shows, rules, settled_in, sizes_of, subst, sym, the_view, unlock, unlock-count, unlock-counts, unlock-done, unlock-same, waiters-queue, worth_in, ◌∙◌, ◌≡◌, ◌≤◌}
-use Rattle.lot_machine.specs.declared.action.Action.TheVariants as action
+use Rattle.lot_machine.specs.declared.trap.Trap.TheVariants as action
 use Rattle.lot_kernel.proofs.tables.Tables.unlock.Goals as goal
 
 pub invariant_of-self : goal.invariant_of-self

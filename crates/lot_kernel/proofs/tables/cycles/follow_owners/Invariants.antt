@@ -1,4 +1,4 @@
--- the mutexes up to the place have the owners that the queues have
+-- the mutexes up to this place have the queues' owners
 use Rattle.lot_kernel.proofs.Cutting.{DoFollow}
 use Rattle.lot_kernel.proofs.tables.cycles.follow_owners.Given as goal
 

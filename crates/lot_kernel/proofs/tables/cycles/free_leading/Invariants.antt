@@ -1,4 +1,4 @@
--- the owners from the place on are to be looked at, and nothing but owners has changed
+-- the owners from this place on are left to do, and only owners have changed
 use Rattle.lot_kernel.proofs.Lemmas.{AreFreed, funding_in, holders_from, lends_lead, length, range_with_len, unserved, ◌+◌, ◌-◌, ◌≡◌, ◌≤◌}
 use Rattle.lot_kernel.proofs.tables.cycles.free_leading.Given as goal
 

@@ -34,8 +34,7 @@ returns-clause-follows c =
         idled = c.follow-3.ensures.idled n was.idled;
         mutexes = c.follow-5.ensures.exact mutex_change done n turn told.time (ap mutex_wait told.answer ∙ sym c.mutex_wait.ensures) was.mutexes;
         replies = c.follow-6.ensures.exact reply_change done n turn told.time (ap reply_wait told.answer ∙ sym (c.reply_wait.ensures c.args.event.now)) was.replies;
-        lives = c.follow-7.ensures.exact life_change done n turn told.time (ap (λ (w : World). life w.state turn.turn.answer) told.world ∙ ap (life (world_of c.args.system.now).state) told.answer
-            ∙ ap (λ (x : Seen). life (world_of x).state (Answered c.args.event.now c.args.reply)) (sym both) ∙ sym c.life.ensures) was.lives;
+        lives = c.follow-7.ensures.exact life_change done n turn told.time (ap life told.answer ∙ sym (c.life.ensures c.args.event.now)) was.lives;
         refused_traps = traps-more done n turn (Answered c.args.event.now c.args.reply) c.args.self.now.refused_traps.threads.items c.follow-8.new.self.threads.items told.answer (c.follow-8.ensures.counted c.args.event.now) was.refused_traps;
         refused = omega (arith, refusals-more done turn c.args.event.now c.args.reply told.answer, c.refusals_in.ensures.refusals, was.refused);
         few = omega (arith, was.few, c.refusals_in.ensures.few);

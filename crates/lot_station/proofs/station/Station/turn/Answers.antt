@@ -1,4 +1,4 @@
--- What lies under the lock is of the station's program and room.
+-- The system under the lock is of the station's program and room.
 use Rattle.lot_station.proofs.Common.{Answers, AtSome, Faults, Goes, IfErr, IfOk, IsWorkOf, Setting, subst}
 use Rattle.lot_station.proofs.station.Station.turn.Goals as goal
 

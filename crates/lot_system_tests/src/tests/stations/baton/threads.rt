@@ -39,10 +39,10 @@ fundx 60 base f busy
 /// The most turns that an actor makes.
 const TURNS: usize = 1000;
 
-/// For the turns of eight processors and the console's six commands.
+/// Room for the turns of eight processors and the console's six commands.
 const ROOM: u32 = 8006;
 
-/// This many turns of the seat, or fewer and then a fault, which the seat keeps.
+/// Makes this many turns of the seat, or fewer and then a fault, which the seat stores.
 fn play<R: Wait>(
     rt: &R,
     station: &BatonStation,

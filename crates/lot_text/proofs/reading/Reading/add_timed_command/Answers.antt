@@ -1,4 +1,4 @@
--- What was reserved or refused leaves the state as it was.
+-- A reservation and a refusal leave the state unchanged.
 use Rattle.lot_text.proofs.Lemmas.{Gives-memory, IsTrue, Reading, length, reading_of, refl, subst, sym, timed-read, with_timed, ◌<◌}
 use Rattle.lot_text.proofs.reading.Reading.add_timed_command.Goals as goal
 

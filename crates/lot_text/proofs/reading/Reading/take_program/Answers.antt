@@ -1,4 +1,4 @@
--- What the program shares are the tables that were read.
+-- The program shares the tables that were read.
 use Rattle.lot_text.proofs.Lemmas.{IfOk-from_err, NamedScript, Reading, Sizes, ap, arith, length, length-map, reading_of, rules, sym, without_seeds, [], ◌∙◌}
 use Rattle.lot_text.proofs.reading.Reading.take_program.Goals as goal
 

@@ -1,4 +1,4 @@
--- The levels that the place needs are taken up one by one.
+-- The levels that the place needs are added one by one.
 use Rattle.lot_tree.proofs.Lemmas.{AreKept, AreKept-grown, AreKept-written, Kept, List, ap, arith, get_or, length, level-room, one_shl, pow-le-pow_right, refl, rewritten_is, set, subst, sym, ℕ, ◌+◌, ◌-◌, ◌^◌, ◌∙◌, ◌≡◌, ◌≤◌}
 use Rattle.lot_tree.proofs.partial_sums.PartialSums.follow.Goals as goal
 

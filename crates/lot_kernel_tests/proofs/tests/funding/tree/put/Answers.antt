@@ -1,4 +1,4 @@
--- The weight that is put adds no more than itself to the total.
+-- The new weight adds at most itself to the total.
 use Rattle.lot_kernel_tests.proofs.Common.{arith, sum_by-set}
 use Rattle.lot_kernel_tests.proofs.tests.funding.tree.put.Goals as goal
 
