@@ -6,7 +6,7 @@ import { fileURLToPath } from "node:url";
 
 /** The modules, each behind those that it needs while it is read. */
 const MODULES = [
-  "lookup", "history", "parse", "input", "place", "status", "value", "commands", "traps", "replay", "describe", "format",
+  "lookup", "history", "status", "traps", "parse", "commands", "input", "place", "value", "replay", "describe", "format",
   "sums", "elements", "colours", "plot", "app", "views/lanes", "views/spans", "views/timeline", "views/lots", "views/draw",
   "views/graph", "views/funding", "views/texts", "views/figures", "views/shares", "views/waits", "views/report", "main",
 ];

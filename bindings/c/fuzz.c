@@ -38,6 +38,7 @@
 #define _DEFAULT_SOURCE
 
 #include "lot.h"
+#include "test_kinds.h"
 #include "test_random.h"
 
 #include <signal.h>
@@ -61,7 +62,6 @@ enum {
     WEIGHTS = 40,           // at most, in one lottery
     BLOCKS = 512,           // at most, at a time
     PAINT = 0xc3,
-    LAST_KIND = LOT_KILL_NUMBERED, // of events
     // At most, of a kernel:
     TICKETS = 250,
     CURRENCIES = 20,
@@ -589,9 +589,14 @@ static void learn_thread(uint32_t thread, const lot_name *name) {
     known.has_delivered[thread] = false;
 }
 
+// Whether it is a command by number.
+static bool is_by_number(const lot_event *event) {
+    return kinds_of_events[event->kind].named != 0;
+}
+
 // Which currency a removal was of.
 static uint32_t known_currency(const lot_event *event) {
-    if (event->kind == LOT_REMOVE_CURRENCY_NUMBERED) {
+    if (is_by_number(event)) {
         return event->object;
     }
     uint32_t currency = CURRENCIES;
@@ -604,7 +609,7 @@ static uint32_t known_currency(const lot_event *event) {
 
 // Which thread a removal or a kill was of. A run of events may have made it since rows were last read.
 static uint32_t known_thread(const lot_event *event) {
-    if (event->kind == LOT_REMOVE_THREAD_NUMBERED || event->kind == LOT_KILL_NUMBERED) {
+    if (is_by_number(event)) {
         return event->object;
     }
     uint32_t thread = THREADS;
@@ -1027,19 +1032,9 @@ static lot_reply reply_to_kill(const struct view *view, const lot_event *event) 
     return (lot_reply){.kind = LOT_REPLY_DONE};
 }
 
-// Whether it is a command by number.
-static bool is_by_number(const lot_event *event) {
-    return (event->kind >= LOT_MAKE_TICKET_IN && event->kind <= LOT_MAKE_FUNDED_IN) || event->kind == LOT_KILL_NUMBERED;
-}
-
-// Whether a command by number refers to a thread.
-static bool is_of_thread(uint32_t kind) {
-    return kind == LOT_FUND_THREAD || kind == LOT_REMOVE_THREAD_NUMBERED || kind == LOT_KILL_NUMBERED;
-}
-
 // Whether what a command by number refers to is there, in the kernel of this view.
 static bool is_number_there(const struct view *view, const lot_event *event) {
-    return is_of_thread(event->kind) ? is_thread(view, event->object) : is_currency(view, event->object);
+    return kinds_of_events[event->kind].of_thread ? is_thread(view, event->object) : is_currency(view, event->object);
 }
 
 // The reply that a command by number must have if nothing has the number. The checks before this one are of the amount
@@ -1062,26 +1057,21 @@ static lot_reply reply_to_no_number(const struct view *view, const lot_event *ev
 
 // Whether what a command by number refers to is there and has a name.
 static bool has_name(const struct view *view, const lot_event *event) {
-    return is_number_there(view, event) && (!is_of_thread(event->kind) || known.names[event->object].length != 0);
+    return is_number_there(view, event) && (!kinds_of_events[event->kind].of_thread || known.names[event->object].length != 0);
 }
 
 // The same command by name, if what has the number is there and has a name; otherwise the event itself.
 static lot_event by_name(const struct view *view, const lot_event *event) {
-    uint32_t object = event->object;
-    uint64_t ticket = event->ticket, amount = event->amount;
     if (!is_by_number(event) || !has_name(view, event)) {
         return *event;
     }
     numbered++;
-    switch (event->kind) {
-    case LOT_MAKE_TICKET_IN: return lot_make_ticket(amount, view->currencies[object].name);
-    case LOT_REMOVE_CURRENCY_NUMBERED: return lot_remove_currency(view->currencies[object].name);
-    case LOT_FUND_CURRENCY: return lot_fund(ticket, view->currencies[object].name);
-    case LOT_FUND_THREAD: return lot_fund(ticket, view->threads[object - 1].name);
-    case LOT_REMOVE_THREAD_NUMBERED: return lot_remove_thread(view->threads[object - 1].name);
-    case LOT_KILL_NUMBERED: return lot_kill(view->threads[object - 1].name);
-    default: return lot_make_funded(amount, view->currencies[object].name, event->name, event->script);
-    }
+    const struct kind *kind = &kinds_of_events[event->kind];
+    lot_name name = kind->of_thread ? view->threads[event->object - 1].name : view->currencies[event->object].name;
+    lot_event named = *event;
+    named.kind = kind->named;
+    *(kinds_of_events[named.kind].currency ? &named.currency : &named.name) = name;
+    return only_read(&named);
 }
 
 // ---- the statuses that bytes deserve
@@ -1105,53 +1095,6 @@ static uint32_t status_of_name(const uint8_t *bytes, size_t length, bool is_plai
     return is_name ? LOT_DONE : LOT_BAD_NAME;
 }
 
-static bool makes_thread(uint32_t kind) {
-    return kind == LOT_MAKE_THREAD || kind == LOT_MAKE_FUNDED || kind == LOT_MAKE_FUNDED_IN;
-}
-
-// The event with 0 in each field that its kind doesn't read.
-static lot_event only_read(const lot_event *event) {
-    uint32_t processor = event->processor, ticks = event->ticks, object = event->object, sent = event->sent;
-    switch ((lot_event_kind)event->kind) {
-    case LOT_MAKE_TICKET: return lot_make_ticket(event->amount, event->currency);
-    case LOT_REMOVE_TICKET: return lot_remove_ticket(event->ticket);
-    case LOT_MAKE_CURRENCY: return lot_make_currency(event->name);
-    case LOT_REMOVE_CURRENCY: return lot_remove_currency(event->currency);
-    case LOT_FUND: return lot_fund(event->ticket, event->name);
-    case LOT_UNFUND: return lot_unfund(event->ticket);
-    case LOT_MAKE_THREAD: return lot_make_thread(event->name, event->script);
-    case LOT_MAKE_FUNDED: return lot_make_funded(event->amount, event->currency, event->name, event->script);
-    case LOT_LIST_TICKETS: return lot_list_tickets();
-    case LOT_LIST_CURRENCIES: return lot_list_currencies();
-    case LOT_LIST_THREADS: return lot_list_threads();
-    case LOT_DRAW: return lot_draw(processor, event->number);
-    case LOT_EXPIRE: return lot_expire(processor);
-    case LOT_YIELD: return lot_yield(processor, ticks);
-    case LOT_CALL: return lot_call(processor, ticks, object, sent);
-    case LOT_RECEIVE: return lot_receive(processor, ticks, object);
-    case LOT_REPLY: return lot_reply_with(processor, ticks, sent);
-    case LOT_LOCK: return lot_lock(processor, ticks, object);
-    case LOT_UNLOCK: return lot_unlock(processor, ticks, object, event->number);
-    case LOT_EXIT: return lot_exit(processor, ticks);
-    case LOT_SERVE: return lot_serve(processor, ticks, object, sent);
-    case LOT_SET_TICKET: return lot_set_ticket(event->ticket, event->amount);
-    case LOT_REMOVE_THREAD: return lot_remove_thread(event->name);
-    case LOT_SLEEP: return lot_sleep(processor, ticks);
-    case LOT_PREEMPT: return lot_preempt(processor, ticks);
-    case LOT_OVERRUN: return lot_overrun(processor, ticks);
-    case LOT_WAKE: return lot_wake(object);
-    case LOT_MAKE_TICKET_IN: return lot_make_ticket_in(event->amount, object);
-    case LOT_REMOVE_CURRENCY_NUMBERED: return lot_remove_currency_numbered(object);
-    case LOT_FUND_CURRENCY: return lot_fund_currency(event->ticket, object);
-    case LOT_FUND_THREAD: return lot_fund_thread(event->ticket, object);
-    case LOT_REMOVE_THREAD_NUMBERED: return lot_remove_thread_numbered(object);
-    case LOT_MAKE_FUNDED_IN: return lot_make_funded_in(event->amount, object, event->name, event->script);
-    case LOT_KILL: return lot_kill(event->name);
-    case LOT_KILL_NUMBERED: return lot_kill_numbered(object);
-    }
-    return *event;
-}
-
 // The event with random bytes in each field that its kind doesn't read.
 static lot_event with_rest(lot_event event) {
     lot_event ones, rest;
@@ -1167,25 +1110,16 @@ static lot_event with_rest(lot_event event) {
     return event;
 }
 
-static bool reads_currency(uint32_t kind) {
-    return kind == LOT_MAKE_TICKET || kind == LOT_REMOVE_CURRENCY || kind == LOT_MAKE_FUNDED;
-}
-
-static bool reads_name(uint32_t kind) {
-    return kind == LOT_MAKE_CURRENCY || kind == LOT_FUND || kind == LOT_MAKE_THREAD || kind == LOT_MAKE_FUNDED ||
-           kind == LOT_REMOVE_THREAD || kind == LOT_MAKE_FUNDED_IN || kind == LOT_KILL;
-}
-
 // Whether an event may have this status. Where two names are wrong, it has that of either.
 static bool deserves(const lot_event *event, uint32_t status) {
     uint32_t kind = event->kind, currency = LOT_DONE, name = LOT_DONE;
     if (kind == 0 || kind > LAST_KIND) {
         return status == LOT_BAD_KIND;
     }
-    if (reads_currency(kind)) {
+    if (kinds_of_events[kind].currency) {
         currency = status_of_name(event->currency.bytes, event->currency.length, known.plain_names);
     }
-    if (reads_name(kind) && (event->name.length != 0 || !makes_thread(kind))) {
+    if (kinds_of_events[kind].name && (event->name.length != 0 || !kinds_of_events[kind].makes_thread)) {
         name = status_of_name(event->name.bytes, event->name.length, known.plain_names);
     }
     if (currency == LOT_DONE || name == LOT_DONE) {
@@ -1481,12 +1415,12 @@ static struct {
 } records[STEPS_OF_KERNEL * EVENTS_OF_STEP];
 static size_t record_count;
 static unsigned long failed, answered, kernels, replayed, full_again;
-static unsigned long outcomes[LOT_OUTCOME_SLEPT + 1], kinds[LOT_REPLY_REFUSED + 1];
-static unsigned long reasons[LOT_TRAP_REFUSAL_LOCK_CYCLE + 1];
+static unsigned long outcomes[LAST_OUTCOME + 1], kinds[LAST_REPLY + 1];
+static unsigned long reasons[LAST_REFUSAL + 1];
 
 static void record(const lot_event *event, const lot_event *again, const lot_reply *reply) {
-    CHECK(reply->kind <= LOT_REPLY_REFUSED && reply->outcome <= LOT_OUTCOME_SLEPT);
-    CHECK(reply->reason <= LOT_TRAP_REFUSAL_LOCK_CYCLE);
+    CHECK(reply->kind <= LAST_REPLY && reply->outcome <= LAST_OUTCOME);
+    CHECK(reply->reason <= LAST_REFUSAL);
     learn(event, reply, sizes.quantum);
     records[record_count].event = *again;
     records[record_count++].reply = *reply;
@@ -1510,10 +1444,6 @@ static void look(lot_kernel *handle, bool stays) {
     check_threads(&now, &sizes);
     check_targets(&now);
     check_values(&now);
-}
-
-static bool is_trap(uint32_t kind) {
-    return (kind >= LOT_YIELD && kind <= LOT_SERVE) || kind == LOT_SLEEP;
 }
 
 static bool changes_nothing(const lot_reply *reply) {
@@ -1653,7 +1583,7 @@ static void check_runner(const lot_event *event, const lot_reply *reply) {
     }
     lot_runner runner = now.runners[event->processor - 1];
     CHECK(reply->kind != LOT_REPLY_WINNER || (runner.thread == reply->thread && runner.used == 0));
-    CHECK(!is_trap(event->kind) || lot_goes_on(reply) == (runner.thread != 0));
+    CHECK(!kinds_of_events[event->kind].is_trap || lot_goes_on(reply) == (runner.thread != 0));
     CHECK(!reply->goes_on || (runner.thread == reply->thread && runner.thread != 0));
     CHECK(reply->kind != LOT_REPLY_EXPIRED || runner.thread == 0);
 }
@@ -2115,18 +2045,18 @@ static double seconds(void) {
 
 // Each kind of reply, each outcome and each refusal came up: kernels got into the states that they need.
 static void check_all_seen(void) {
-    for (uint32_t kind = 1; kind <= LOT_REPLY_REFUSED; kind++) {
+    for (uint32_t kind = 1; kind <= LAST_REPLY; kind++) {
         CHECK(kinds[kind] != 0);
     }
-    for (uint32_t outcome = 1; outcome <= LOT_OUTCOME_SLEPT; outcome++) {
+    for (uint32_t outcome = 1; outcome <= LAST_OUTCOME; outcome++) {
         CHECK(outcomes[outcome] != 0);
     }
-    for (uint32_t reason = LOT_REFUSAL_NAME_TAKEN; reason <= LOT_TRAP_REFUSAL_LOCK_CYCLE; reason++) {
+    for (uint32_t reason = LOT_REFUSAL_NAME_TAKEN; reason <= LAST_REFUSAL; reason++) {
         CHECK(reasons[reason] != 0 || strcmp(lot_refusal_text(reason), "unknown refusal") == 0);
     }
     CHECK(draws_held != 0 && unlocks_held != 0 && removals != 0 && failed != 0);
     CHECK(sleeps != 0 && wakes != 0 && preemptions != 0 && overruns != 0 && numbered != 0);
-    for (uint32_t status = LOT_STATUS_READY; status <= LOT_STATUS_ASLEEP; status++) {
+    for (uint32_t status = LOT_STATUS_READY; status <= LAST_STATUS; status++) {
         CHECK(kills[status] != 0 || status == LOT_STATUS_DEAD);
     }
     CHECK(inherited != 0 && released != 0);
@@ -2170,7 +2100,7 @@ int main(int argc, char **argv) {
     printf("ok: fuzz: %lu queued calls lent to a server; %lu servers taken away, %lu ended\n", queued_lent, servers_cut,
            servers_gone);
     unsigned long killed = 0;
-    for (uint32_t status = 0; status <= LOT_STATUS_ASLEEP; status++) {
+    for (uint32_t status = 0; status <= LAST_STATUS; status++) {
         killed += kills[status];
     }
     printf("ok: fuzz: %lu kills, which released %lu clients and passed %lu mutexes on\n", killed, released, inherited);

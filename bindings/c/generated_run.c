@@ -21,6 +21,7 @@
 // as the first one of a run with the seed that is printed.
 
 #include "model.h"
+#include "test_kinds.h"
 #include "test_random.h"
 
 #include <stdio.h>
@@ -38,9 +39,7 @@ enum {
     LARGER_IN = 64,           // one in as many is larger than others
     LASTING_HAS = 3,          // one event in as many is of the kernel that lasts
     LIFE = 1000,              // in as many events its tables fill and empty
-    STILL = 60,               // after as many idle draws in a row a kernel is given up
-    KINDS = LOT_KILL_NUMBERED + 1,
-    REASONS = LOT_TRAP_REFUSAL_LOCK_CYCLE + 1
+    STILL = 60                // after as many idle draws in a row a kernel is given up
 };
 
 // What is meant of structs that have bytes behind their last field.
@@ -75,7 +74,7 @@ static struct {
     uint64_t unnamed;      // threads born without a name
     uint64_t plain;        // threads born with a plain name
     uint64_t bad_names[2]; // where names are good names, and where they are plain ones
-    uint64_t kinds[KINDS], outcomes[LOT_OUTCOME_SLEPT + 1], reasons[REASONS];
+    uint64_t kinds[LAST_KIND + 1], outcomes[LAST_OUTCOME + 1], reasons[LAST_REFUSAL + 1];
 } total;
 
 // ---- random numbers
@@ -656,7 +655,7 @@ static lot_event wake_some_thread(void) {
 
 // Mostly there is such a kind, and rarely an exit, which would end too many.
 static uint32_t any_kind(void) {
-    uint32_t kind = one_in(50) ? (uint32_t)random_bits() : (uint32_t)below(KINDS + 2);
+    uint32_t kind = one_in(50) ? (uint32_t)random_bits() : (uint32_t)below(LAST_KIND + 3);
     return kind == LOT_EXIT && !one_in(10) ? LOT_YIELD : kind;
 }
 
@@ -1021,7 +1020,7 @@ static void say_reasons(void) {
            (unsigned long long)total.plain);
     printf("no event: %llu, by bad names: %llu, and %llu where names are plain\n", (unsigned long long)total.no_events,
            (unsigned long long)total.bad_names[0], (unsigned long long)total.bad_names[1]);
-    for (uint32_t reason = 1; reason < REASONS; reason++) {
+    for (uint32_t reason = 1; reason <= LAST_REFUSAL; reason++) {
         if (total.reasons[reason] != 0) {
             printf("refused: %s: %llu\n", lot_refusal_text(reason), (unsigned long long)total.reasons[reason]);
         }
@@ -1037,11 +1036,12 @@ static bool is_seen(const uint64_t *counts, uint32_t first, uint32_t last) {
 
 // Each kind of event, each outcome and each refusal came up.
 static void check_all_seen(void) {
-    check(is_seen(total.kinds, 1, KINDS - 1), "each kind of event came up");
-    check(is_seen(total.outcomes, 1, LOT_OUTCOME_SLEPT), "each outcome came up");
-    check(is_seen(total.reasons, LOT_REFUSAL_NAME_TAKEN, LOT_REFUSAL_ALIVE), "each refusal of a command came up");
-    check(is_seen(total.reasons, LOT_REFUSAL_BAD_PROCESSOR, LOT_REFUSAL_NOT_ASLEEP), "each refusal came up");
-    check(is_seen(total.reasons, LOT_TRAP_REFUSAL_NOTHING_TO_REPLY, REASONS - 1), "each refusal of a trap came up");
+    check(is_seen(total.kinds, 1, LAST_KIND), "each kind of event came up");
+    check(is_seen(total.outcomes, 1, LAST_OUTCOME), "each outcome came up");
+    for (uint32_t reason = LOT_REFUSAL_NAME_TAKEN; reason <= LAST_REFUSAL; reason++) {
+        bool is_reason = strcmp(lot_refusal_text(reason), "unknown refusal") != 0;
+        check(!is_reason || total.reasons[reason] != 0, "each refusal came up");
+    }
     check(machine.free_tickets.taken != 0 && machine.free_currencies.taken != 0 && machine.free_threads.taken != 0 &&
               total.full != 0, "numbers are given again, and kernels that do so are full");
     const struct servers *it = &machine.servers;

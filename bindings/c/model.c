@@ -1,6 +1,7 @@
 // A plain model of a kernel: model.h says what it is. Comments name the definitions, in crates/lot_machine/specs.
 
 #include "model.h"
+#include "test_kinds.h"
 
 #include <stdio.h>
 #include <string.h>
@@ -1297,7 +1298,7 @@ static uint32_t trap(const lot_event *event, struct after (*act)(uint32_t, const
 // ---- events
 
 // Commands, draws and the like, by their kinds.
-static uint32_t (*const others[])(const lot_event *, lot_reply *) = {
+static uint32_t (*const others[LAST_KIND + 1])(const lot_event *, lot_reply *) = {
     [LOT_MAKE_TICKET] = make_ticket,
     [LOT_REMOVE_TICKET] = remove_ticket,
     [LOT_MAKE_CURRENCY] = make_currency,
@@ -1327,7 +1328,7 @@ static uint32_t (*const others[])(const lot_event *, lot_reply *) = {
 };
 
 // Traps, by their kinds.
-static struct after (*const traps[])(uint32_t, const lot_event *, lot_reply *) = {
+static struct after (*const traps[LAST_KIND + 1])(uint32_t, const lot_event *, lot_reply *) = {
     [LOT_YIELD] = yield,
     [LOT_CALL] = call,
     [LOT_RECEIVE] = receive,
@@ -1339,31 +1340,17 @@ static struct after (*const traps[])(uint32_t, const lot_event *, lot_reply *) =
     [LOT_SLEEP] = fall_asleep,
 };
 
-enum { KINDS = sizeof others / sizeof *others, KINDS_TO_SLEEP = sizeof traps / sizeof *traps };
-
-static bool is_trap(uint32_t kind) {
-    return kind < KINDS_TO_SLEEP && traps[kind] != NULL;
-}
-
 // What the fields of an event are worth, before any check of the kernel.
 static uint32_t status_of(const lot_event *event) {
-    uint32_t status = LOT_DONE;
-    switch (event->kind) {
-    case LOT_MAKE_TICKET:
-    case LOT_REMOVE_CURRENCY: return status_of_name(&event->currency);
-    case LOT_MAKE_FUNDED:
-        status = status_of_name(&event->currency);
-        return status != LOT_DONE ? status : status_of_thread_name(&event->name);
-    case LOT_MAKE_THREAD:
-    case LOT_MAKE_FUNDED_IN: return status_of_thread_name(&event->name);
-    case LOT_MAKE_CURRENCY:
-    case LOT_FUND:
-    case LOT_REMOVE_THREAD:
-    case LOT_KILL: return status_of_name(&event->name);
-    default: break;
+    if (event->kind == 0 || event->kind > LAST_KIND) {
+        return LOT_BAD_KIND;
     }
-    bool is_kind = is_trap(event->kind) || (event->kind < KINDS && others[event->kind] != NULL);
-    return is_kind ? LOT_DONE : LOT_BAD_KIND;
+    const struct kind *kind = &kinds_of_events[event->kind];
+    uint32_t status = kind->currency ? status_of_name(&event->currency) : LOT_DONE;
+    if (status != LOT_DONE || !kind->name) {
+        return status;
+    }
+    return kind->makes_thread ? status_of_thread_name(&event->name) : status_of_name(&event->name);
 }
 
 uint32_t model_event(const lot_event *event, const lot_reply *kernels, lot_reply *reply) {
@@ -1373,7 +1360,7 @@ uint32_t model_event(const lot_event *event, const lot_reply *kernels, lot_reply
         return status;
     }
     seen = kernels;
-    if (is_trap(event->kind)) {
+    if (traps[event->kind] != NULL) {
         reason = trap(event, traps[event->kind], reply);
     } else {
         reason = others[event->kind](event, reply);

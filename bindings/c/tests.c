@@ -3,6 +3,8 @@
 // It prints a line for each test, and ends with status 1 at the first thing that is not as it should be.
 
 #include "lot.h"
+#include "test_kinds.h"
+#include "test_random.h"
 
 #include <stdio.h>
 #include <stdlib.h>
@@ -12,9 +14,6 @@
 #define SAME(a, b, last) (memcmp(&(a), &(b), (size_t)((char *)&(a).last - (char *)&(a)) + sizeof (a).last) == 0)
 
 #define CHECK(holds) check((holds), #holds, __LINE__)
-
-// The last kind of event.
-enum { LAST_KIND = LOT_KILL_NUMBERED };
 
 static void check(bool holds, const char *text, int line) {
     if (!holds) {
@@ -979,49 +978,37 @@ static bool is_event(lot_event event, lot_event meant) {
     return memcmp(&event, &meant, sizeof event) == 0;
 }
 
-// Each kind of event by its function, beside its fields.
+// The event with 0 in each field that its kind doesn't read.
+static lot_event kept_of(const lot_event *it) {
+    const struct kind *reads = &kinds_of_events[it->kind];
+    return (lot_event){
+        .kind = it->kind,
+        .processor = reads->processor ? it->processor : 0,
+        .ticks = reads->ticks ? it->ticks : 0,
+        .object = reads->object ? it->object : 0,
+        .sent = reads->sent ? it->sent : 0,
+        .script = reads->script ? it->script : 0,
+        .number = reads->number ? it->number : lot_wide_of(0),
+        .amount = reads->amount ? it->amount : 0,
+        .ticket = reads->ticket ? it->ticket : 0,
+        .currency = reads->currency ? it->currency : lot_no_name(),
+        .name = reads->name ? it->name : lot_no_name(),
+    };
+}
+
+// Each kind of event by its function, beside its fields; and two of them by their numbers.
 static void made_events(void) {
     const lot_name a = lot_name_of("a"), b = lot_name_of("b");
     const lot_wide wide = {.low = 7, .high = 8};
-    CHECK(is_event(lot_make_ticket(5, a), (lot_event){.kind = 1, .amount = 5, .currency = a}));
-    CHECK(is_event(lot_remove_ticket(5), (lot_event){.kind = 2, .ticket = 5}));
-    CHECK(is_event(lot_make_currency(a), (lot_event){.kind = 3, .name = a}));
-    CHECK(is_event(lot_remove_currency(a), (lot_event){.kind = 4, .currency = a}));
-    CHECK(is_event(lot_fund(5, a), (lot_event){.kind = 5, .ticket = 5, .name = a}));
-    CHECK(is_event(lot_unfund(5), (lot_event){.kind = 6, .ticket = 5}));
-    CHECK(is_event(lot_make_thread(a, 2), (lot_event){.kind = 7, .name = a, .script = 2}));
+    lot_event event = {.processor = 1, .ticks = 2, .object = 3, .sent = 4, .script = 5, .number = wide,
+                       .amount = 6, .ticket = 9, .currency = a, .name = b};
+    for (event.kind = 1; event.kind <= LAST_KIND; event.kind++) {
+        CHECK(is_event(only_read(&event), kept_of(&event)));
+    }
     CHECK(is_event(lot_make_funded(5, a, b, 2),
                    (lot_event){.kind = 8, .amount = 5, .currency = a, .name = b, .script = 2}));
-    CHECK(is_event(lot_list_tickets(), (lot_event){.kind = 9}));
-    CHECK(is_event(lot_list_currencies(), (lot_event){.kind = 10}));
-    CHECK(is_event(lot_list_threads(), (lot_event){.kind = 11}));
-    CHECK(is_event(lot_draw(1, wide), (lot_event){.kind = 12, .processor = 1, .number = wide}));
-    CHECK(is_event(lot_expire(1), (lot_event){.kind = 13, .processor = 1}));
-    CHECK(is_event(lot_yield(1, 2), (lot_event){.kind = 14, .processor = 1, .ticks = 2}));
-    CHECK(is_event(lot_call(1, 2, 3, 4), (lot_event){.kind = 15, .processor = 1, .ticks = 2, .object = 3, .sent = 4}));
-    CHECK(is_event(lot_receive(1, 2, 3), (lot_event){.kind = 16, .processor = 1, .ticks = 2, .object = 3}));
-    CHECK(is_event(lot_reply_with(1, 2, 4), (lot_event){.kind = 17, .processor = 1, .ticks = 2, .sent = 4}));
-    CHECK(is_event(lot_lock(1, 2, 3), (lot_event){.kind = 18, .processor = 1, .ticks = 2, .object = 3}));
     CHECK(is_event(lot_unlock(1, 2, 3, wide),
                    (lot_event){.kind = 19, .processor = 1, .ticks = 2, .object = 3, .number = wide}));
-    CHECK(is_event(lot_exit(1, 2), (lot_event){.kind = 20, .processor = 1, .ticks = 2}));
-    CHECK(is_event(lot_serve(1, 2, 3, 4),
-                   (lot_event){.kind = 21, .processor = 1, .ticks = 2, .object = 3, .sent = 4}));
-    CHECK(is_event(lot_set_ticket(5, 6), (lot_event){.kind = 22, .ticket = 5, .amount = 6}));
-    CHECK(is_event(lot_remove_thread(a), (lot_event){.kind = 23, .name = a}));
-    CHECK(is_event(lot_sleep(1, 2), (lot_event){.kind = 24, .processor = 1, .ticks = 2}));
-    CHECK(is_event(lot_preempt(1, 2), (lot_event){.kind = 25, .processor = 1, .ticks = 2}));
-    CHECK(is_event(lot_overrun(1, 2), (lot_event){.kind = 26, .processor = 1, .ticks = 2}));
-    CHECK(is_event(lot_wake(3), (lot_event){.kind = 27, .object = 3}));
-    CHECK(is_event(lot_make_ticket_in(5, 3), (lot_event){.kind = 28, .amount = 5, .object = 3}));
-    CHECK(is_event(lot_remove_currency_numbered(3), (lot_event){.kind = 29, .object = 3}));
-    CHECK(is_event(lot_fund_currency(5, 3), (lot_event){.kind = 30, .ticket = 5, .object = 3}));
-    CHECK(is_event(lot_fund_thread(5, 3), (lot_event){.kind = 31, .ticket = 5, .object = 3}));
-    CHECK(is_event(lot_remove_thread_numbered(3), (lot_event){.kind = 32, .object = 3}));
-    CHECK(is_event(lot_make_funded_in(5, 3, b, 2),
-                   (lot_event){.kind = 33, .amount = 5, .object = 3, .name = b, .script = 2}));
-    CHECK(is_event(lot_kill(a), (lot_event){.kind = 34, .name = a}));
-    CHECK(is_event(lot_kill_numbered(3), (lot_event){.kind = 35, .object = 3}));
     const lot_sizes sizes = lot_sizes_small();
     CHECK(memcmp(&sizes, &SMALL, sizeof sizes) == 0);
     lot_kernel kernel = {&kernel};
@@ -1417,6 +1404,14 @@ static void limits(void) {
     puts("ok: limits");
 }
 
+// Whether an event only has this status, and no reply.
+static bool only_fails(lot_kernel *kernel, const lot_event *event, uint32_t status) {
+    lot_reply reply, before;
+    memset(&reply, 0x5a, sizeof reply);
+    memset(&before, 0x5a, sizeof before);
+    return lot_kernel_event(kernel, event, &reply) == status && memcmp(&reply, &before, sizeof reply) == 0;
+}
+
 // Each kind that there isn't, and each name that isn't one: a status of its own, no reply, and nothing changed.
 static void kinds_and_names(void) {
     static const uint32_t kinds[6] = {0, LAST_KIND + 1, LAST_KIND + 2, 255, 1u << 31, UINT32_MAX};
@@ -1426,29 +1421,24 @@ static void kinds_and_names(void) {
     } names[9] = {{"", 0, LOT_BAD_NAME},          {"a b", 3, LOT_BAD_NAME},  {"Base", 4, LOT_BAD_NAME},
                   {"9a", 2, LOT_BAD_NAME},        {"a\xff", 2, LOT_BAD_NAME}, {"-a", 2, LOT_BAD_NAME},
                   {"base", 17, LOT_LONG_NAME},    {"base", UINT32_MAX, LOT_LONG_NAME}, {"base", 5, LOT_BAD_NAME}};
-    // The first three have it in the currency's place. The last three make threads, which need no name.
-    static const uint32_t naming[10] = {LOT_MAKE_TICKET, LOT_REMOVE_CURRENCY, LOT_MAKE_FUNDED, LOT_MAKE_CURRENCY,
-                                        LOT_FUND, LOT_REMOVE_THREAD, LOT_KILL, LOT_MAKE_THREAD, LOT_MAKE_FUNDED,
-                                        LOT_MAKE_FUNDED_IN};
     lot_kernel kernel = made(&SMALL);
-    lot_reply reply;
-    memset(&reply, 0x5a, sizeof reply);
-    lot_reply before = reply;
     for (size_t i = 0; i < 6; i++) {
         lot_event event = lot_event_of(kinds[i]);
-        CHECK(lot_kernel_event(&kernel, &event, &reply) == LOT_BAD_KIND);
-        CHECK(memcmp(&reply, &before, sizeof reply) == 0);
+        CHECK(only_fails(&kernel, &event, LOT_BAD_KIND));
     }
-    for (size_t k = 0; k < 10; k++) {
-        for (size_t i = k < 7 ? 0 : 1; i < 9; i++) {
+    // In the place of a currency and in that of another name. A kind that makes a thread needs no name.
+    for (uint32_t kind = 1; kind <= LAST_KIND; kind++) {
+        const struct kind *reads = &kinds_of_events[kind];
+        for (size_t i = 0; i < 9; i++) {
             lot_event event = lot_make_funded(1, lot_name_of("base"), lot_name_of("fresh"), 1);
-            event.kind = naming[k];
+            event.kind = kind;
             event.ticket = 1;
-            lot_name *name = k < 3 ? &event.currency : &event.name;
-            *name = lot_name_of(names[i].text);
-            name->length = names[i].length;
-            CHECK(lot_kernel_event(&kernel, &event, &reply) == names[i].status);
-            CHECK(memcmp(&reply, &before, sizeof reply) == 0);
+            lot_event other = event;
+            event.currency = other.name = lot_name_of(names[i].text);
+            event.currency.length = other.name.length = names[i].length;
+            bool needs_name = reads->name && (i != 0 || !reads->makes_thread);
+            CHECK(!reads->currency || only_fails(&kernel, &event, names[i].status));
+            CHECK(!needs_name || only_fails(&kernel, &other, names[i].status));
         }
     }
     uint32_t count = 0;
@@ -1497,15 +1487,6 @@ static void runs(void) {
 }
 
 // ---- any bytes
-
-static uint64_t seed = 1;
-
-static uint64_t random_bits(void) {
-    uint64_t z = (seed += UINT64_C(0x9e3779b97f4a7c15));
-    z = (z ^ (z >> 30)) * UINT64_C(0xbf58476d1ce4e5b9);
-    z = (z ^ (z >> 27)) * UINT64_C(0x94d049bb133111eb);
-    return z ^ (z >> 31);
-}
 
 // Half of the events are bytes alone; in the others some fields are such as to mean something.
 static lot_event random_event(void) {
@@ -1586,10 +1567,6 @@ static bool same_currencies(lot_kernel *first, lot_kernel *second) {
     return count == other;
 }
 
-static bool is_trap(uint32_t kind) {
-    return (kind >= LOT_YIELD && kind <= LOT_SERVE) || kind == LOT_SLEEP;
-}
-
 static bool somebody_runs(lot_kernel *kernel, uint32_t processor) {
     lot_runner runner;
     return lot_kernel_runner(kernel, processor, &runner) == LOT_DONE;
@@ -1600,6 +1577,7 @@ static bool somebody_runs(lot_kernel *kernel, uint32_t processor) {
 // lot_refused says that it is a refusal.
 static void any_bytes(unsigned long count) {
     lot_kernel all = made(&SMALL), some = made(&SMALL);
+    seed = 1;
     unsigned long answered = 0, refused = 0, kept = 0;
     for (unsigned long i = 0; i < count; i++) {
         lot_event event = random_event();
@@ -1613,7 +1591,7 @@ static void any_bytes(unsigned long count) {
         }
         answered++;
         CHECK(lot_refused(&reply) == (reply.reason != 0));
-        CHECK(!is_trap(event.kind) || lot_goes_on(&reply) == somebody_runs(&all, event.processor));
+        CHECK(!kinds_of_events[event.kind].is_trap || lot_goes_on(&reply) == somebody_runs(&all, event.processor));
         bool may_run = reply.kind == LOT_REPLY_WINNER || reply.kind == LOT_REPLY_TRAPPED;
         CHECK(reply.goes_on == (may_run && somebody_runs(&all, event.processor)));
         if (reply.kind == LOT_REPLY_REFUSED) {

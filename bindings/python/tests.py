@@ -12,6 +12,7 @@ import threading
 import unittest
 from concurrent.futures import ThreadPoolExecutor
 from pathlib import Path
+from typing import Union
 from unittest import mock
 
 import lot
@@ -634,15 +635,18 @@ class Taken(unittest.TestCase):
 
     def test_name_or_number(self):
         """A str makes the event by name, and an int the one by number."""
-        make = lot.events
-        for call, kinds in {
-            lambda it: make.make_ticket(5, it): (EventKind.MAKE_TICKET, EventKind.MAKE_TICKET_IN),
-            lambda it: make.make_funded("a", 5, it): (EventKind.MAKE_FUNDED, EventKind.MAKE_FUNDED_IN),
-            make.remove_currency: (EventKind.REMOVE_CURRENCY, EventKind.REMOVE_CURRENCY_NUMBERED),
-            make.remove_thread: (EventKind.REMOVE_THREAD, EventKind.REMOVE_THREAD_NUMBERED),
-            make.kill: (EventKind.KILL, EventKind.KILL_NUMBERED),
-        }.items():
-            self.assertEqual((call("3").kind, call(3).kind), kinds)
+        make, numbered = lot.events, set()
+        for name, function in inspect.getmembers(make, inspect.isfunction):
+            kinds = inspect.signature(function).parameters
+            for either in [it for it in kinds if kinds[it].annotation == Union[str, int]]:
+                given = {it: 5 if kinds[it].annotation is int else "a" for it in kinds}
+                by_name, by_number = function(**given), function(**{**given, either: 3})
+                self.assertEqual(by_name.kind.name, name.upper())
+                self.assertIn(by_number.kind.name, [f"{name.upper()}_NUMBERED", f"{name.upper()}_IN"])
+                numbered.add(by_number.kind)
+        numbered |= {EventKind.FUND_CURRENCY, EventKind.FUND_THREAD, EventKind.WAKE}
+        by_number = {kind for kind in EventKind if {"currency_number", "thread"} & set(lot.events.READS[kind])}
+        self.assertEqual(numbered, by_number)
         self.assertEqual(make.make_ticket(5, 3), lot.Event(EventKind.MAKE_TICKET_IN, amount=5, currency_number=3))
         self.assertRaises(TypeError, lot.Event, EventKind.MAKE_TICKET, amount=5, currency=3)
         self.assertRaises(TypeError, lot.Event, EventKind.MAKE_TICKET_IN, amount=5, currency_number="u")

@@ -8,8 +8,8 @@ from textwrap import wrap
 TOP = Path(__file__).resolve().parent.parent.parent
 TABLE = TOP / "crates/lot_c/specs/Numbers.antt"
 MADE = "Made by `bindings/write_tables` of `crates/lot_c/specs/Numbers.antt`."
-CLAUSE = re.compile(r"(\w+) \(?\w+\.(\w+)((?: \w+)*)\)? = (\d+)$")
-SIGNATURE = re.compile(r"(\w+)\((.*?)\)(?: -> ([\w ]+))?(?:; ([\w, ]+))?$")
+CLAUSE = re.compile(r"(\w+) (\(?\w+\..*) = (\d+)$")
+SIGNATURE = re.compile(r"(?:(\w+): )?(\w+)\((.*?)\)(?: -> ([\w ]+))?(?:; ([\w, ]+))?$")
 PARAMETER = re.compile(r"(\w+)([?#]?)(?: = (\w+))?")
 
 # A function of the table: the names of its enum in C, Rust and Python, the beginning of its constants in C, and what
@@ -69,28 +69,31 @@ class Parameter(namedtuple("Parameter", "name mark default")):
 class Row:
     """A row: a name with its number, and what the comment over it says."""
 
-    def __init__(self, sort, name, binders, number, notes):
+    def __init__(self, sort, term, number, notes):
         self.sort, self.number = sort, number
+        # What it numbers, without the aliases, as Command, MakeTicket and Name.
+        self.term = name, *binders = re.sub(r"\w+\.|[()]", "", term).split()
         self.case = "".join(it for it in binders if it[0].isupper())
         self.name = {"Unfunded": "None"}.get(name, name) + self.case
+        self.words, self.fields, self.parameters = None, [], []
+        if not notes:
+            raise SystemExit(f"{TABLE.name}: there is no comment over {term}")
+        if sort == "event_number":
+            self.read_signature(notes[0])
+            notes, binders = notes[1:], []
         self.upper = upper(self.name)
         self.lower = self.upper.lower()
         self.c = f"LOT_{SORTS[sort].front}{self.upper}"
-        self.words, self.fields, self.parameters = None, [], []
-        if not notes:
-            raise SystemExit(f"{TABLE.name}: there is no comment over {name}")
-        if sort == "event_number":
-            self.read_signature(notes[0])
-            notes = notes[1:]
         # The binders name the fields for Rust, one after the other. Whether a thread goes on follows from others.
         self.read_meaning(" ".join(notes), [it for it in binders if it[0].islower()] + ["goes_on"])
 
     def read_signature(self, line):
-        """What an event reads, and how it ends."""
+        """An event's name, which is its verb's if no other stands there, what it reads, and how it ends."""
         signature = SIGNATURE.match(line)
         if not signature:
             raise SystemExit(f"{TABLE.name}: {self.name} has no signature, but {line}")
-        self.verb, parameters, results, refusals = (it or "" for it in signature.groups())
+        name, self.verb, parameters, results, refusals = (it or "" for it in signature.groups())
+        self.name = name or self.verb
         self.parameters = [Parameter(*it) for it in PARAMETER.findall(parameters)]
         self.results, self.refusals = re.findall(r"[A-Z]\w+", results), re.findall(r"\w+", refusals)
 
@@ -116,9 +119,9 @@ def read_rows():
     for line in TABLE.read_text().splitlines():
         found = CLAUSE.match(line)
         if found:
-            sort, name, binders, number = found.groups()
+            sort, term, number = found.groups()
             if all(row.number != number for row in rows[sort]):
-                rows[sort].append(Row(sort, name, binders.split(), number, notes))
+                rows[sort].append(Row(sort, term, number, notes))
         notes = notes + [line[3:]] if line.startswith("-- ") else []
     relate(rows["event_number"], {row.name for row in rows["outcome_number"]})
     return rows

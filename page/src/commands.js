@@ -1,4 +1,4 @@
-// What each command of the console does to a replay.
+// What each command of the console does to a replay. A listing does nothing.
 
 import { DEAD, READY } from "./status.js";
 
@@ -37,7 +37,7 @@ function release(replay, turn, number) {
   }
 }
 
-const COMMANDS = {
+export const COMMANDS = {
   mktkt: (replay, turn, [amount, issuer]) => makeTicket(replay, turn, amount, issuer),
   rmtkt: (replay, turn, [ticket]) => replay.setTicket(turn, ticketNumber(replay, ticket), null),
   mkcur: (replay, turn, [name]) => replay.makeCurrency(turn.index, turn.currency, name),
@@ -66,6 +66,9 @@ const COMMANDS = {
     replay.now.threads.delete(turn.thread);
     replay.threads.get(turn.thread)?.statuses.set(turn.index, null);
   },
+  lstkt() {},
+  lscur() {},
+  lsthr() {},
 };
 
 const ACCEPTED = new Set(["madeTicket", "madeCurrency", "madeThread", "funded", "done"]);
@@ -82,5 +85,5 @@ export function command(replay, turn) {
   replay.commands.push(turn.index);
   if (!ACCEPTED.has(turn.kind)) return;
   if (as && turn.ticket) replay.numbers.tickets.set(as, turn.ticket);
-  COMMANDS[word]?.(replay, turn, words);
+  COMMANDS[word](replay, turn, words);
 }

@@ -1,29 +1,14 @@
 // Turns and statuses in plain words. `words` gives the names of threads, ports and mutexes.
 
-const TRAPS = {
-  expire: () => "has used up its quantum",
-  yield: () => "gives up its quantum",
-  served: ({ port, server }, words) =>
-    `calls port ${words.port(port)}; ${words.name(server)} serves it, and is lent the caller's value`,
-  queued: ({ port }, words) => `calls port ${words.port(port)}, where no server waits: its call is queued`,
-  received: ({ client, port }, words) => `takes the call of ${words.name(client)} at port ${words.port(port)}`,
-  receiving: ({ port }, words) => `waits for a call at port ${words.port(port)}`,
-  replied: () => "goes on",
-  locked: ({ mutex }, words) => `takes mutex ${words.mutex(mutex)}`,
-  waiting: ({ mutex }, words) => `waits for mutex ${words.mutex(mutex)}, and lends its value to the owner`,
-  freed: ({ mutex }, words) => `frees mutex ${words.mutex(mutex)}`,
-  passed: ({ mutex, to, number, total }, words) => `passes mutex ${words.mutex(mutex)} to ${words.name(to)}`
-    + (total ? `: a lottery of the waiters drew ${number} of ${total}` : ", who has waited longest"),
-  sleep: () => "goes to sleep",
-  exit: () => "ends",
-  trapRefused: ({ reason }) => `is refused a trap: ${reason}`,
-};
+import { TRAPS } from "./traps.js";
 
 function describeTrap(turn, words) {
+  const names = { ...words, server: words.name, client: words.name, to: words.name };
   const ticks = turn.ticks === 1 ? "1 tick" : `${turn.ticks} ticks`;
   const reply = turn.answered ? `replies to ${words.name(turn.answered)} and ` : "";
+  const act = TRAPS[turn.kind].says.replace(/\{(\w+)\}/g, (_, it) => names[it]?.(turn[it]) ?? turn[it]);
   const ends = turn.ends ? ", and its quantum is used up" : "";
-  return `After ${ticks} ${words.name(turn.thread)} ${reply}${TRAPS[turn.kind](turn, words)}${ends}.`;
+  return `After ${ticks} ${words.name(turn.thread)} ${reply}${act}${ends}.`;
 }
 
 export function describe(turn, words) {

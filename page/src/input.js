@@ -1,7 +1,10 @@
 // Reads an input, which the program has checked.
 
-const COMMANDS = "mktkt rmtkt mkcur rmcur fund unfund settkt rmthr kill mkthr fundx lstkt lscur lsthr".split(" ");
-const WITH_ARGUMENT = "compute set add loop call receive serve sleep lock unlock".split(" ");
+import { COMMANDS } from "./commands.js";
+import { TRAPS } from "./traps.js";
+
+const WORDS = Object.values(TRAPS).map(({ words }) => words).join(" ") + " compute N set N add N loop N";
+const hasArgument = (word) => new RegExp(`\\b${word} [A-Z]`).test(WORDS);
 
 /** Undoes the safe form, in which no input can end its element. */
 export const unescaped = (text) => text.replaceAll("&lt;", "<").replaceAll("&amp;", "&");
@@ -26,7 +29,7 @@ class Input {
     if (word.startsWith("#")) this.title ||= line.replace(/^[\s#]+/, "").trim();
     else if (this.script) this.readScript(words, index);
     else if (word === "script") this.begin(rest[0], index);
-    else if (COMMANDS.includes(word)) this.command(word, rest, index);
+    else if (word in COMMANDS) this.command(word, rest, index);
     else if (word in this.numbers) this.numbers[word] = Number(rest[0]);
     else this.lists[word]?.push(rest[0]);
   }
@@ -44,7 +47,7 @@ class Input {
         this.script = null;
         return;
       }
-      this.script.words.push({ word, argument: WITH_ARGUMENT.includes(word) ? words[++i] : null, line });
+      this.script.words.push({ word, argument: hasArgument(word) ? words[++i] : null, line });
     }
   }
 

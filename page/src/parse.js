@@ -3,6 +3,7 @@
 // The forms are those of docs/FORMATS.md. `{name:W}` is a field of a sort, N if none is told; `[..]` is optional.
 
 import { listAt } from "./lookup.js";
+import { TRAPS } from "./traps.js";
 
 const SORTS = {
   N: "\\d+",
@@ -58,23 +59,7 @@ const trap = (kind, form) => [kind, `thread {thread} ticks {ticks} ${form}`];
 const readTurn = readerOf([
   ["draw", "draw {number:D} of {total:D} thread {thread}[ got {got}]"],
   ["idle", "idle"],
-  trap("expire", "expire"),
-  trap("yield", "yield"),
-  trap("served", "call {port} served by {server}"),
-  trap("queued", "call {port} queued"),
-  trap("received", "receive {port} client {client} got {got}[{ends:E}]"),
-  trap("receiving", "receive {port} waits"),
-  trap("replied", "reply client {answered}[{ends:E}]"),
-  trap("received", "reply client {answered} receive {port} client {client} got {got}[{ends:E}]"),
-  trap("receiving", "reply client {answered} receive {port} waits"),
-  trap("locked", "lock {mutex} taken[{ends:E}]"),
-  trap("waiting", "lock {mutex} waits"),
-  trap("freed", "unlock {mutex} free[{ends:E}]"),
-  trap("passed", "unlock {mutex} to {to} draw {number:D} of {total:D}"),
-  trap("passed", "unlock {mutex} to {to} oldest"),
-  trap("sleep", "sleep"),
-  trap("exit", "exit"),
-  trap("trapRefused", "refused {code} {reason:R}[{ends:E}]"),
+  ...Object.entries(TRAPS).flatMap(([kind, { forms }]) => forms.map((form) => trap(kind, form))),
   ["wake", "wake thread {thread}"],
   ["madeTicket", "ticket {ticket}"],
   ["madeCurrency", "currency {currency}"],

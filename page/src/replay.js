@@ -126,7 +126,7 @@ export class Replay {
     this.slices.push({ time: turn.time, ticks: turn.ticks, thread: turn.thread, above });
     thread.ticks += turn.ticks;
     const argument = follow(this, turn, thread);
-    TRAPS[turn.kind](this, turn, thread, argument);
+    TRAPS[turn.kind].does(this, turn, thread, argument);
   }
 
   /** Dues from now on: each live thread's part of the value of all, each currency's part of base's. */

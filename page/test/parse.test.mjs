@@ -15,7 +15,7 @@ for (const { name, text } of examples) {
     for (const turn of run.turns) {
       const before = linesBefore(run, turn);
       assert.ok(!before.includes(null));
-      if (before.length) assert.ok(turn.kind === "draw" || turn.kind === "passed", turn.kind);
+      if (before.length) assert.ok(turn.kind === "draw" || turn.kind === "drawn", turn.kind);
     }
   });
 }

@@ -119,7 +119,7 @@ test("turns and statuses are sentences", () => {
   assert.deepEqual([
     { kind: "draw", actor: 2, number: 1.5, total: 3, thread: 2, got: 7 }, { ...trap, kind: "expire" },
     { ...trap, kind: "received", answered: 2, port: 1, client: 3, ends: " ends" },
-    { ...trap, kind: "passed", mutex: 1, to: 2, number: 3, total: 4 }, { ...trap, kind: "replied", answered: 3 },
+    { ...trap, kind: "drawn", mutex: 1, to: 2, number: 3, total: 4 }, { ...trap, kind: "replied", answered: 3 },
     { kind: "done", command: { word: "fund", words: ["1", "b"] } }, { kind: "refused", actor: 0, reason: "NoThread" },
   ].map((turn) => describe(turn, words)), [
     "Processor 2 draws 1.5 of 3: b wins and gets the number 7.", "After 1 tick a has used up its quantum.",

@@ -81,7 +81,7 @@ pub use Rattle.lot_kernel.proofs.Common.{Action, After, BadProcessor, BadTicks, 
 pub use Rattle.lot_kernel.specs.Counted.{AreDone, Counts, IsDone}
 pub use Rattle.lot_kernel.specs.Memory.{bytes_of}
 pub use Rattle.lot_c.specs.Calls.{events_meant, fault_or, first_fault, in_front, replies_written, written_by}
-pub use Rattle.lot_c.specs.Events.{event_meant, result_and_then, result_map}
+pub use Rattle.lot_c.specs.Events.{event_meant}
 pub use Rattle.lot_c.specs.Handles.{KernelValue, handle_owns, handle_shares}
 pub use Rattle.lot_c.specs.Lending.{with_kernel}
 pub use Rattle.lot_c.specs.Names.{name_meant, name_passing, plain_name, spelled, thread_name_meant}

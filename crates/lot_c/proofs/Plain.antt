@@ -1,7 +1,15 @@
 -- A value that C receives and passes back is the same.
-use Rattle.lot_c.proofs.Common.{Bool, Currencies, Event, Fund, HasNames, Kill, List, MakeCurrency, MakeFunded, MakeThread, MakeTicket, None, Ok, Option, Outcome, PlainReply, PlainStatus, Refusal, RemoveCurrency, RemoveThread, RemoveTicket, Reply, SetTicket, Sizes, Some, Status, Threads, Tickets, TrapRefusal, Unfund, ap, arith, div-add-mod', event_meant, false, find, is_name, is_thread_name, length, name_meant, name_passing, nat_lt, outcome_number, plain_event, plain_name, plain_outcome, plain_reply, plain_status, plain_wide, refl, refusal_number, reply_number, result_and_then, result_map, seen_reply, spelled, status_number, sym, take-append_seam, thread_name_meant, trap_refusal_number, true, unwrap_or, wide_meant, ℕ, [], ◌==◌, ◌^◌, ◌∙◌, ◌∷◌, ◌≡◌, ◌≤◌}
+use Rattle.lot_c.proofs.Common.{Bool, Currencies, Event, HasNames, List, None, Ok, Option, Outcome, PlainReply, PlainStatus, Refusal, Reply, Sizes, Some, Status, Threads, Tickets, TrapRefusal, ap, arith, div-add-mod', event_meant, false, find, is_name, is_thread_name, length, name_meant, name_passing, nat_lt, outcome_number, plain_event, plain_name, plain_outcome, plain_reply, plain_status, plain_wide, refl, refusal_number, reply_number, seen_reply, spelled, status_number, sym, take-append_seam, thread_name_meant, trap_refusal_number, true, unwrap_or, wide_meant, ℕ, [], ◌==◌, ◌^◌, ◌∙◌, ◌∷◌, ◌≡◌, ◌≤◌, suc}
 use Rattle.lot_machine.specs.declared.trap.Trap.TheVariants as action
-use Rattle.lot_machine.specs.declared.command.Command.TheVariants.{List as Listing}
+use Rattle.std.specs.Prelude.{All, Err, Result}
+use Rattle.lot_machine.specs.Arguments.{Value}
+use Rattle.lot_machine.specs.Arguments as value
+use Rattle.lot_machine.specs.Verbs.{command_from, form, parts, values_given, with_rest, ◌>>=◌}
+use Rattle.lot_machine.specs.declared.command.Command.{Command}
+use Rattle.lot_machine.specs.declared.command.Command.TheVariants as command
+use Rattle.lot_machine.specs.declared.verb.Slot.{Slot}
+use Rattle.lot_machine.specs.declared.verb.Verb.{Verb}
+use Rattle.lot_machine.specs.declared.verb.Verb.TheVariants as verb
 use Rattle.lot_machine.specs.declared.event.Event.TheVariants as event
 use Rattle.lot_machine.specs.declared.reference.CurrencyRef.TheVariants as currency_ref
 use Rattle.lot_machine.specs.declared.reference.ThreadRef.TheVariants as thread_ref
@@ -11,6 +19,11 @@ use Rattle.lot_machine.specs.declared.refusal.Refusal.TheVariants as refusal
 use Rattle.lot_machine.specs.declared.refusal.TrapRefusal.TheVariants as trap
 use Rattle.lot_machine.specs.declared.reply.Outcome.TheVariants as outcome
 use Rattle.lot_machine.specs.declared.reply.Reply.TheVariants as reply
+use Rattle.lot_c.specs.Events.{CommandFields, argument_given, command_event, field_given, meant_as}
+use Rattle.lot_c.specs.Numbers.{kind_numbered}
+use Rattle.lot_c.specs.Plain.{HasName, plain_command, reference_in}
+use Rattle.lot_c.specs.declared.kind.EventKind.TheVariants as kind
+use Rattle.lot_c.specs.declared.status.Status.{Status as CallStatus}
 
 -- ---- names, numbers and events
 
@@ -32,22 +45,82 @@ thread-named sizes = passing (is_thread_name sizes)
 pub wide : (n : ℕ) → wide_meant (plain_wide n) ≡ n
 wide n = div-add-mod' n (2 ^ 64)
 
+-- an argument, its name read again if it has one
+abbrev again : Sizes → Verb → Value → Result Value CallStatus
+again sizes v (value.Currency (currency_ref.Named name)) = (name_meant sizes (plain_name name) >>= λ n. Ok (currency_ref.Named n)) >>= λ x. Ok (value.Currency x)
+again sizes v (value.Target (target_ref.Named name)) = (name_meant sizes (plain_name name) >>= λ n. Ok (target_ref.Named n)) >>= λ x. Ok (value.Target x)
+again sizes v (value.Thread (thread_ref.Named name)) = (name_meant sizes (plain_name name) >>= λ n. Ok (thread_ref.Named n)) >>= λ x. Ok (value.Thread x)
+again sizes verb.MakeCurrency (value.Name name) = name_meant sizes (plain_name name) >>= λ n. Ok (value.Name n)
+again sizes v (value.Name name) = thread_name_meant sizes (plain_name name) >>= λ n. Ok (value.Name n)
+again sizes v other = Ok other
+
+abbrev each_again : Sizes → Verb → List Value → Result (List Value) CallStatus
+each_again sizes v [] = Ok []
+each_again sizes v (x ∷ xs) = again sizes v x >>= λ first. each_again sizes v xs >>= λ others. Ok (first ∷ others)
+
+again-same : (sizes : Sizes) (v : Verb) (x : Value) → HasName sizes v x → again sizes v x ≡ Ok x
+again-same sizes v (value.Currency (currency_ref.Named name)) has = ap (λ (m : Result (List ℕ) CallStatus). (m >>= λ n. Ok (currency_ref.Named n)) >>= λ x. Ok (value.Currency x)) (named sizes name has.0 has.1)
+again-same sizes v (value.Target (target_ref.Named name)) has = ap (λ (m : Result (List ℕ) CallStatus). (m >>= λ n. Ok (target_ref.Named n)) >>= λ x. Ok (value.Target x)) (named sizes name has.0 has.1)
+again-same sizes v (value.Thread (thread_ref.Named name)) has = ap (λ (m : Result (List ℕ) CallStatus). (m >>= λ n. Ok (thread_ref.Named n)) >>= λ x. Ok (value.Thread x)) (named sizes name has.0 has.1)
+again-same sizes verb.MakeCurrency (value.Name name) has = ap (λ (m : Result (List ℕ) CallStatus). m >>= λ n. Ok (value.Name n)) (named sizes name has.0 has.1)
+again-same sizes v (value.Name name) has = ap (λ (m : Result (List ℕ) CallStatus). m >>= λ n. Ok (value.Name n)) (thread-named sizes name has.0 has.1)
+again-same sizes v other has = refl
+
+each-same : (sizes : Sizes) (v : Verb) (xs : List Value) → All (HasName sizes v) xs → each_again sizes v xs ≡ Ok xs
+each-same sizes v [] has = refl
+each-same sizes v (x ∷ xs) has =
+    ap (λ (m : Result Value CallStatus). m >>= λ first. each_again sizes v xs >>= λ others. Ok (first ∷ others)) (again-same sizes v x (has 0 x (omega arith)))
+    ∙ ap (λ (m : Result (List Value) CallStatus). m >>= λ others. Ok (x ∷ others)) (each-same sizes v xs (λ k d below. has (suc k) d (omega (arith, below))))
+
+-- the arguments in the fields
+abbrev fields_given : CommandFields → List Slot → Result (List Value) CallStatus
+fields_given f [] = Ok []
+fields_given f (wanted ∷ kinds) = field_given f wanted >>= λ first. fields_given f kinds >>= λ others. Ok (first ∷ others)
+
+given-behind : (f : CommandFields) (x : Value) (m : Result (List Value) CallStatus)
+    → (with_rest (λ xs. xs) f m >>= λ others. Ok (x ∷ others.0, others.1)) ≡ with_rest (λ xs. xs) f (m >>= λ others. Ok (x ∷ others))
+given-behind f x (Ok xs) = refl
+given-behind f x (Err why) = refl
+
+given-first : (f : CommandFields) (kinds : List Slot) (m : Result Value CallStatus) → values_given argument_given kinds f ≡ with_rest (λ xs. xs) f (fields_given f kinds)
+    → (with_rest (λ x. x) f m >>= λ first. values_given argument_given kinds first.1 >>= λ others. Ok (first.0 ∷ others.0, others.1))
+    ≡ with_rest (λ xs. xs) f (m >>= λ first. fields_given f kinds >>= λ others. Ok (first ∷ others))
+given-first f kinds (Ok x) others =
+    ap (λ (m : Result (List Value × CommandFields) CallStatus). m >>= λ others. Ok (x ∷ others.0, others.1)) others ∙ given-behind f x (fields_given f kinds)
+given-first f kinds (Err why) others = refl
+
+-- reading an argument leaves the fields as they are
+given : (f : CommandFields) (kinds : List Slot) → values_given argument_given kinds f ≡ with_rest (λ xs. xs) f (fields_given f kinds)
+given f [] = refl
+given f (wanted ∷ kinds) = given-first f kinds (field_given f wanted) (given f kinds)
+
+-- the fields of a command, for a kernel with these sizes
+abbrev fields_of : Sizes → Command → CommandFields
+fields_of sizes c = record { event = plain_command c; sizes = sizes; verb = (parts c).0; reference = reference_in (parts c).1 }
+
+-- the kind of a command's fields is found, each argument is read as by itself, and the arguments make the command
+put-read : (sizes : Sizes) (c : Command) → (kind_numbered (plain_command c).kind ≡ Some (kind.Command (parts c).0 (reference_in (parts c).1)))
+    × (fields_given (fields_of sizes c) (form (parts c).0) ≡ each_again sizes (parts c).0 (parts c).1) × (command_from (parts c).0 (parts c).1 ≡ Some c)
+put-read sizes (command.MakeTicket amount (currency_ref.Named currency)) = (refl, refl, refl)
+put-read sizes (command.RemoveCurrency (currency_ref.Named currency)) = (refl, refl, refl)
+put-read sizes (command.Fund ticket (target_ref.Named target)) = (refl, refl, refl)
+put-read sizes (command.RemoveThread (thread_ref.Named thread)) = (refl, refl, refl)
+put-read sizes (command.Kill (thread_ref.Named thread)) = (refl, refl, refl)
+put-read sizes (command.MakeFunded amount (currency_ref.Named currency) name script) = (refl, refl, refl)
+put-read sizes (command.List Tickets) = (refl, refl, refl)
+put-read sizes c = (refl, refl, refl)
+
+command-meant : (sizes : Sizes) (c : Command) → All (HasName sizes (parts c).0) (parts c).1 → event_meant sizes (plain_command c) ≡ Ok (event.Command c)
+command-meant sizes c has =
+    let kept = put-read sizes c in
+    let make : List Value × CommandFields → Result (Option Command × CommandFields) CallStatus = λ values. Ok (command_from (parts c).0 values.0, values.1) in
+    ap (meant_as sizes (plain_command c)) kept.0
+    ∙ ap (λ (m : Result (List Value × CommandFields) CallStatus). (m >>= make) >>= λ made. command_event made.0)
+    (given (fields_of sizes c) (form (parts c).0) ∙ ap (with_rest (λ xs. xs) (fields_of sizes c)) (kept.1 ∙ each-same sizes (parts c).0 (parts c).1 has))
+    ∙ ap command_event kept.2
+
 pub meant : (sizes : Sizes) (e : Event) → HasNames sizes e → event_meant sizes (plain_event e) ≡ Ok e
-meant sizes (event.Command (MakeTicket amount (currency_ref.Named currency))) (short, good) = ap (result_map (λ n. event.Command (MakeTicket amount (currency_ref.Named n)))) (named sizes currency short good)
-meant sizes (event.Command (MakeCurrency name)) (short, good) = ap (result_map (λ n. event.Command (MakeCurrency n))) (named sizes name short good)
-meant sizes (event.Command (RemoveCurrency (currency_ref.Named currency))) (short, good) = ap (result_map (λ n. event.Command (RemoveCurrency (currency_ref.Named n)))) (named sizes currency short good)
-meant sizes (event.Command (Fund ticket (target_ref.Named target))) (short, good) = ap (result_map (λ n. event.Command (Fund ticket (target_ref.Named n)))) (named sizes target short good)
-meant sizes (event.Command (MakeThread name script)) (short, good) = ap (result_map (λ n. event.Command (MakeThread n script))) (thread-named sizes name short good)
-meant sizes (event.Command (RemoveThread (thread_ref.Named thread))) (short, good) = ap (result_map (λ n. event.Command (RemoveThread (thread_ref.Named n)))) (named sizes thread short good)
-meant sizes (event.Command (Kill (thread_ref.Named thread))) (short, good) = ap (result_map (λ n. event.Command (Kill (thread_ref.Named n)))) (named sizes thread short good)
-meant sizes (event.Command (MakeFunded amount (currency_ref.Named currency) name script)) ((short, good), (short', good')) =
-    ap (λ m. result_and_then m (λ c. result_map (λ n. event.Command (MakeFunded amount (currency_ref.Named c) n script)) (thread_name_meant sizes (plain_name name)))) (named sizes currency short good)
-    ∙ ap (result_map (λ n. event.Command (MakeFunded amount (currency_ref.Named currency) n script))) (thread-named sizes name short' good')
-meant sizes (event.Command (MakeFunded amount (currency_ref.Numbered currency) name script)) (has, (short, good)) =
-    ap (result_map (λ n. event.Command (MakeFunded amount (currency_ref.Numbered currency) n script))) (thread-named sizes name short good)
-meant sizes (event.Command (Listing Tickets)) has = refl
-meant sizes (event.Command (Listing Currencies)) has = refl
-meant sizes (event.Command (Listing Threads)) has = refl
+meant sizes (event.Command c) has = command-meant sizes c has
 meant sizes (event.Draw p d) has = ap (λ n. Ok (event.Draw p n)) (wide d)
 meant sizes (event.Trap p ran (action.Unlock mutex d)) has = ap (λ n. Ok (event.Trap p ran (action.Unlock mutex n))) (wide d)
 meant sizes e has = refl

@@ -2,7 +2,6 @@ pub mod Calls
 pub mod Counts
 pub mod Events
 pub mod Handles
-pub mod Kinds
 pub mod Lending
 pub mod Lotteries
 pub mod Names

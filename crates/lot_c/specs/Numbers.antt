@@ -10,24 +10,32 @@
 --
 -- The refusals of an event stand in the order of its checks. A field is one of `lot_event` or `lot_reply`, or says
 -- what `object`, `name` or `ticks` holds. `name?` may be missing, `thread#` is a number, and `script = 1` is what
--- Python takes if it is left out. A row that only has a verb with fields is the verb's event by number.
-use Rattle.std.specs.Prelude.{ℕ, ◌+◌, ◌*◌, ◌^◌}
+-- Python takes if it is left out. A row with a name before the verb, as `FundThread: Fund(ticket, thread#)`, is the
+-- verb's event by number.
+use Rattle.std.specs.Prelude.{ℕ, ◌+◌, ◌*◌, ◌^◌, ◌==◌, Option, List, [], ◌∷◌, ◌++◌, map}
+use Rattle.std.specs.List.{find}
 use Rattle.lot_machine.specs.declared.command.Kind.TheVariants.{Tickets, Currencies, Threads}
 use Rattle.lot_machine.specs.declared.record.Status.{Status as ThreadStatus}
 use Rattle.lot_machine.specs.declared.record.Status.TheVariants as thread
 use Rattle.lot_machine.specs.declared.refusal.Refusal.{Refusal}
 use Rattle.lot_machine.specs.declared.refusal.Refusal.TheVariants as refusal
 use Rattle.lot_machine.specs.declared.refusal.TrapRefusal.{TrapRefusal}
-use Rattle.lot_machine.specs.declared.refusal.TrapRefusal.TheVariants as trap
+use Rattle.lot_machine.specs.declared.refusal.TrapRefusal.TheVariants as trap_refusal
 use Rattle.lot_machine.specs.declared.reply.Outcome.{Outcome}
 use Rattle.lot_machine.specs.declared.reply.Outcome.TheVariants as outcome
 use Rattle.lot_machine.specs.declared.reply.Reply.{Reply}
 use Rattle.lot_machine.specs.declared.reply.Reply.TheVariants as reply
 use Rattle.lot_machine.specs.declared.ticket.Target.{Target}
 use Rattle.lot_machine.specs.declared.ticket.Target.TheVariants as target
+use Rattle.lot_machine.specs.declared.trap.Trap.TheVariants as trap
+use Rattle.lot_machine.specs.declared.verb.Verb.{Verb}
+use Rattle.lot_machine.specs.declared.verb.Verb.TheVariants as verb
+use Rattle.lot_c.specs.declared.kind.EventKind.{EventKind}
+use Rattle.lot_c.specs.declared.kind.EventKind.TheVariants as kind
+use Rattle.lot_c.specs.declared.kind.Reference.{Reference}
+use Rattle.lot_c.specs.declared.kind.Reference.TheVariants as by
 use Rattle.lot_c.specs.declared.status.Status.{Status}
 use Rattle.lot_c.specs.declared.status.Status.TheVariants as status
-use Rattle.lot_c.specs.Kinds.{EventKind}
 
 -- the version of the library, 0.4.0
 abbrev pub version : ℕ
@@ -68,114 +76,135 @@ code status.NotSettled = 13
 abbrev pub event_number : EventKind → ℕ
 -- MakeTicket(amount, currency = base) -> Ticket; BadAmount, NoCurrency, Full
 -- Makes a ticket of this amount, 1 to 4294967295, issued in the currency. It funds nothing yet.
-event_number EventKind.MakeTicket = 1
+event_number (kind.Command verb.MakeTicket by.Name) = 1
 -- RemoveTicket(ticket) -> Done; NoTicket, Funding
 -- Removes a ticket that funds nothing. Its number is used again only with `reuse`.
-event_number EventKind.RemoveTicket = 2
+event_number (kind.Command verb.RemoveTicket by.Name) = 2
 -- MakeCurrency(name) -> Currency; NameTaken, Full
 -- Makes a currency, with a name that neither a currency nor a thread has, a dead one included.
-event_number EventKind.MakeCurrency = 3
+event_number (kind.Command verb.MakeCurrency by.Name) = 3
 -- RemoveCurrency(currency) -> Done; NoCurrency, BaseFixed, InUse
 -- Removes a currency other than base that issues no ticket and that no ticket funds.
-event_number EventKind.RemoveCurrency = 4
+event_number (kind.Command verb.RemoveCurrency by.Name) = 4
 -- Fund(ticket, target) -> Done; NoTicket, NoTarget, BaseFixed, DeadThread, Funding, Cycle
 -- Makes a ticket that funds nothing fund a currency other than base, or a thread that isn't dead.
-event_number EventKind.Fund = 5
+event_number (kind.Command verb.Fund by.Name) = 5
 -- Unfund(ticket) -> Done; NoTicket, NotFunding
 -- Takes away the target of a ticket that funds something.
-event_number EventKind.Unfund = 6
+event_number (kind.Command verb.Unfund by.Name) = 6
 -- MakeThread(name? = none, script = 1) -> Thread; NameTaken, NoScript, Full
 -- Makes a thread, with a name or without. It is ready, and nothing funds it yet. Its script, 1 to `scripts`, is a
 -- number that the kernel keeps for its caller.
-event_number EventKind.MakeThread = 7
+event_number (kind.Command verb.MakeThread by.Name) = 7
 -- MakeFunded(amount, currency = base, name?, script = 1) -> Funded; BadAmount, NoCurrency, NameTaken, NoScript, Full
 -- Makes a thread, with a name or without, and a ticket of this amount, 1 to 4294967295, which is issued in the
 -- currency and funds the thread.
-event_number EventKind.MakeFunded = 8
+event_number (kind.Command verb.MakeFunded by.Name) = 8
 -- ListTickets() -> ListTickets
 -- Requests a listing of the tickets. The reply contains no rows: read them one by one.
-event_number EventKind.ListTickets = 9
+event_number (kind.Command (verb.List Tickets) by.Name) = 9
 -- ListCurrencies() -> ListCurrencies
 -- Requests a listing of the currencies. The reply contains no rows: read them one by one.
-event_number EventKind.ListCurrencies = 10
+event_number (kind.Command (verb.List Currencies) by.Name) = 10
 -- ListThreads() -> ListThreads
 -- Requests a listing of the threads. The reply contains no rows: read them one by one.
-event_number EventKind.ListThreads = 11
+event_number (kind.Command (verb.List Threads) by.Name) = 11
 -- Draw(processor, number) -> Winner or Idle; BadProcessor, Busy
 -- Holds a lottery over the ready threads with this number, any 128 bits. The winner runs on the processor, which must
 -- be idle.
-event_number EventKind.Draw = 12
+event_number kind.Draw = 12
 -- Expire(processor) -> Expired; BadProcessor, NotRunning
 -- Ends the quantum of the thread that runs on the processor. The rest of the quantum counts as used.
-event_number EventKind.Expire = 13
+event_number kind.Expire = 13
 -- Yield(processor, ticks) -> Yielded
 -- Gives up the processor. The thread is compensated for the rest of its quantum.
-event_number EventKind.Yield = 14
+event_number (kind.Trap trap.Yield) = 14
 -- Call(processor, ticks, port, sent) -> ServedBy or Queued; NoPort
 -- Sends a number to a port, and waits for the reply. The thread lends to the one that serves it; with `queued_lend`
 -- also, while its call is queued, to the one that took the last call at the port.
-event_number EventKind.Call = 15
+event_number (kind.Trap (trap.Call object sent)) = 15
 -- Receive(processor, ticks, port) -> Received or Waits; NoPort
 -- Takes the call that has waited longest at a port, or waits for one.
-event_number EventKind.Receive = 16
+event_number (kind.Trap (trap.Receive object)) = 16
 -- Reply(processor, ticks, sent) -> Replied; NothingToReply
 -- Replies with a number to the client that the thread took first.
-event_number EventKind.Reply = 17
+event_number (kind.Trap (trap.Reply sent)) = 17
 -- Lock(processor, ticks, mutex) -> Locked or Waits; NoMutex, AlreadyOwner, LockCycle
 -- Takes a mutex, or waits for it and lends to its owner.
-event_number EventKind.Lock = 18
+event_number (kind.Trap (trap.Lock object)) = 18
 -- Unlock(processor, ticks, mutex, number) -> Freed or Passed; NoMutex, NotOwner
 -- Frees a mutex, or passes it on to a waiter by a lottery with this number, any 128 bits.
-event_number EventKind.Unlock = 19
+event_number (kind.Trap (trap.Unlock object drawn)) = 19
 -- Exit(processor, ticks) -> Exited
 -- Ends the thread. Its name, its mutexes, its clients and the tickets that fund it stay as they are.
-event_number EventKind.Exit = 20
+event_number (kind.Trap trap.Exit) = 20
 -- Serve(processor, ticks, port, sent) -> RepliedThenReceived or RepliedThenWaits; NoPort, NothingToReply
 -- Replies with a number to the client that the thread took first, and then receives a call at a port or waits for one.
-event_number EventKind.Serve = 21
+event_number (kind.Trap (trap.Serve object sent)) = 21
 -- SetTicket(ticket, amount) -> Done; BadAmount, NoTicket
 -- Sets a ticket's amount, 1 to 4294967295, which counts at once: inflation and deflation (3.2). The ticket keeps its
 -- target.
-event_number EventKind.SetTicket = 22
+event_number (kind.Command verb.SetTicket by.Name) = 22
 -- RemoveThread(thread) -> Done; NoThread, Alive, InUse
 -- Removes a dead thread that no ticket funds, and that has no client and owns no mutex. Its name may be used again,
 -- its number only with `reuse`.
-event_number EventKind.RemoveThread = 23
+event_number (kind.Command verb.RemoveThread by.Name) = 23
 -- Sleep(processor, ticks) -> Slept
 -- Sleeps until a wake. The thread's tickets are inactive meanwhile; it keeps its mutexes and its clients, and is
 -- compensated for the rest of its quantum.
-event_number EventKind.Sleep = 24
+event_number (kind.Trap (trap.Sleep ticks)) = 24
 -- Preempt(processor, ticks) -> Expired; BadProcessor, NotRunning, BadTicks
 -- Preempts the thread that runs on the processor, after `ticks` ticks of work, at most the rest of its quantum. The
 -- thread becomes ready, is charged these ticks, and isn't compensated.
-event_number EventKind.Preempt = 25
+event_number kind.Preempt = 25
 -- Overrun(processor, late) -> Expired; BadProcessor, NotRunning, BadTicks
 -- Ends the quantum of the thread that runs on the processor, `late` ticks after its time. The rest of the quantum and
 -- the late ticks count as used: until the thread next wins, its weight is value * quantum / (quantum + late), rounded
 -- down, but at least 1 if its value is. The quantum and the late ticks together are at most 4294967295.
-event_number EventKind.Overrun = 26
+event_number kind.Overrun = 26
 -- Wake(thread#) -> Done; NoThread, NotAsleep
 -- Makes a sleeping thread ready, with the compensation from when it went to sleep.
-event_number EventKind.Wake = 27
--- MakeTicket(amount, currency#)
-event_number EventKind.MakeTicketIn = 28
--- RemoveCurrency(currency#)
-event_number EventKind.RemoveCurrencyNumbered = 29
--- Fund(ticket, currency#) -> Done; NoTicket, NoTarget, BaseFixed, Funding, Cycle
-event_number EventKind.FundCurrency = 30
--- Fund(ticket, thread#) -> Done; NoTicket, NoTarget, DeadThread, Funding
-event_number EventKind.FundThread = 31
--- RemoveThread(thread#)
-event_number EventKind.RemoveThreadNumbered = 32
--- MakeFunded(amount, currency#, name?, script = 1)
-event_number EventKind.MakeFundedIn = 33
+event_number kind.Wake = 27
+-- MakeTicketIn: MakeTicket(amount, currency#)
+event_number (kind.Command verb.MakeTicket by.Currency) = 28
+-- RemoveCurrencyNumbered: RemoveCurrency(currency#)
+event_number (kind.Command verb.RemoveCurrency by.Currency) = 29
+-- FundCurrency: Fund(ticket, currency#) -> Done; NoTicket, NoTarget, BaseFixed, Funding, Cycle
+event_number (kind.Command verb.Fund by.Currency) = 30
+-- FundThread: Fund(ticket, thread#) -> Done; NoTicket, NoTarget, DeadThread, Funding
+event_number (kind.Command verb.Fund by.Thread) = 31
+-- RemoveThreadNumbered: RemoveThread(thread#)
+event_number (kind.Command verb.RemoveThread by.Thread) = 32
+-- MakeFundedIn: MakeFunded(amount, currency#, name?, script = 1)
+event_number (kind.Command verb.MakeFunded by.Currency) = 33
 -- Kill(thread) -> Done; NoThread, DeadThread
 -- Ends a thread, whatever its status. If it runs, its processor is idle then, and it is charged nothing more: to
 -- charge what it ran, preempt it first. Its clients are ready, with nothing delivered. Each of its mutexes passes to
 -- the thread that has waited longest for it. A thread that exits keeps its clients and its mutexes.
-event_number EventKind.Kill = 34
--- Kill(thread#)
-event_number EventKind.KillNumbered = 35
+event_number (kind.Command verb.Kill by.Name) = 34
+-- KillNumbered: Kill(thread#)
+event_number (kind.Command verb.Kill by.Thread) = 35
+event_number other = 0
+
+-- the kinds of these verbs that refer so
+abbrev referring : Reference → List Verb → List EventKind
+referring reference = map (λ v. kind.Command v reference)
+
+-- each kind that has a number
+abbrev kinds : List EventKind
+kinds =
+    referring by.Name (verb.MakeTicket ∷ verb.RemoveTicket ∷ verb.MakeCurrency ∷ verb.RemoveCurrency ∷ verb.Fund ∷ [])
+    ++ referring by.Name (verb.Unfund ∷ verb.SetTicket ∷ verb.MakeThread ∷ verb.RemoveThread ∷ verb.Kill ∷ [])
+    ++ referring by.Name (verb.MakeFunded ∷ verb.List Tickets ∷ verb.List Currencies ∷ verb.List Threads ∷ [])
+    ++ referring by.Currency (verb.MakeTicket ∷ verb.RemoveCurrency ∷ verb.Fund ∷ verb.MakeFunded ∷ [])
+    ++ referring by.Thread (verb.Fund ∷ verb.RemoveThread ∷ verb.Kill ∷ [])
+    ++ map kind.Trap (trap.Yield ∷ trap.Call tt tt ∷ trap.Receive tt ∷ trap.Reply tt ∷ trap.Serve tt tt ∷ [])
+    ++ map kind.Trap (trap.Lock tt ∷ trap.Unlock tt tt ∷ trap.Sleep tt ∷ trap.Exit ∷ [])
+    ++ (kind.Draw ∷ kind.Expire ∷ kind.Preempt ∷ kind.Overrun ∷ kind.Wake ∷ [])
+
+-- the kind with this number, if there is one
+abbrev pub kind_numbered : ℕ → Option EventKind
+kind_numbered number = find (λ k. event_number k == number) kinds
 
 -- the number of a reply's kind; each listing has one
 abbrev pub reply_number : Reply → ℕ
@@ -296,18 +325,18 @@ refusal_number refusal.NotAsleep = 24
 -- the number of a trap's refusal, as in docs/FORMATS.md
 abbrev pub trap_refusal_number : TrapRefusal → ℕ
 -- "no such port": no port has the number
-trap_refusal_number trap.NoPort = 30
+trap_refusal_number trap_refusal.NoPort = 30
 -- "the thread serves no client"
-trap_refusal_number trap.NothingToReply = 32
+trap_refusal_number trap_refusal.NothingToReply = 32
 -- "no such mutex": no mutex has the number
-trap_refusal_number trap.NoMutex = 33
+trap_refusal_number trap_refusal.NoMutex = 33
 -- "the thread doesn't own the mutex"
-trap_refusal_number trap.NotOwner = 34
+trap_refusal_number trap_refusal.NotOwner = 34
 -- "the thread owns the mutex already"
-trap_refusal_number trap.AlreadyOwner = 35
+trap_refusal_number trap_refusal.AlreadyOwner = 35
 -- "the wait would close a cycle": the wait would close a cycle of threads that wait for each other. Calls that are
 -- queued at a port don't count.
-trap_refusal_number trap.LockCycle = 36
+trap_refusal_number trap_refusal.LockCycle = 36
 
 -- the number of a thread's status
 abbrev pub status_number : ThreadStatus → ℕ

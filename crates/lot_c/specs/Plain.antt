@@ -1,22 +1,25 @@
 -- The plain fields of an event.
-use Rattle.std.specs.Prelude.{◌≡◌, ◌≤◌, ℕ, List, [], true, length}
+use Rattle.std.specs.Prelude.{◌≡◌, ◌≤◌, ℕ, List, [], ◌∷◌, All, fold, true, length}
+use Rattle.lot_machine.specs.Actions.{Action, object_of, with_numbers}
+use Rattle.lot_machine.specs.Arguments.{Value}
+use Rattle.lot_machine.specs.Arguments as value
 use Rattle.lot_machine.specs.Commands.{is_name, is_thread_name}
-use Rattle.lot_machine.specs.Actions.{Action}
-use Rattle.lot_machine.specs.declared.trap.Trap.TheVariants as action
+use Rattle.lot_machine.specs.Verbs.{parts}
 use Rattle.lot_machine.specs.declared.command.Command.{Command}
-use Rattle.lot_machine.specs.declared.command.Command.TheVariants.{MakeTicket, RemoveTicket, MakeCurrency, RemoveCurrency, Fund, Unfund, SetTicket, MakeThread, RemoveThread, Kill, MakeFunded, List as Listing}
-use Rattle.lot_machine.specs.declared.command.Kind.TheVariants.{Tickets, Currencies, Threads}
 use Rattle.lot_machine.specs.declared.event.Event.{Event}
 use Rattle.lot_machine.specs.declared.event.Event.TheVariants as event
-use Rattle.lot_machine.specs.declared.reference.CurrencyRef.{CurrencyRef}
 use Rattle.lot_machine.specs.declared.reference.CurrencyRef.TheVariants as currency_ref
-use Rattle.lot_machine.specs.declared.reference.ThreadRef.{ThreadRef}
 use Rattle.lot_machine.specs.declared.reference.ThreadRef.TheVariants as thread_ref
-use Rattle.lot_machine.specs.declared.reference.TargetRef.{TargetRef}
 use Rattle.lot_machine.specs.declared.reference.TargetRef.TheVariants as target_ref
 use Rattle.lot_machine.specs.declared.sizes.Sizes.{Sizes}
+use Rattle.lot_machine.specs.declared.trap.Trap.TheVariants as trap
+use Rattle.lot_machine.specs.declared.verb.Verb.{Verb}
+use Rattle.lot_machine.specs.declared.verb.Verb.TheVariants as verb
 use Rattle.lot_c.specs.declared.event.PlainEvent.{PlainEvent}
-use Rattle.lot_c.specs.Kinds.{EventKind}
+use Rattle.lot_c.specs.declared.kind.EventKind.{EventKind}
+use Rattle.lot_c.specs.declared.kind.EventKind.TheVariants as kind
+use Rattle.lot_c.specs.declared.kind.Reference.{Reference}
+use Rattle.lot_c.specs.declared.kind.Reference.TheVariants as by
 use Rattle.lot_c.specs.Names.{plain_name}
 use Rattle.lot_c.specs.Numbers.{event_number}
 use Rattle.lot_c.specs.Wides.{plain_wide}
@@ -45,81 +48,76 @@ IsName sizes name = (length name ≤ 16) × (is_name sizes name ≡ true)
 abbrev IsThreadName : Sizes → List ℕ → Type 0
 IsThreadName sizes name = (length name ≤ 16) × (is_thread_name sizes name ≡ true)
 
--- a currency referred to by name has such a name
-abbrev HasCurrencyName : Sizes → CurrencyRef → Type 0
-HasCurrencyName sizes (currency_ref.Named name) = IsName sizes name
-HasCurrencyName sizes (currency_ref.Numbered currency) = Unit {0}
-
--- a thread referred to by name has one, and such a name
-abbrev HasThreadName : Sizes → ThreadRef → Type 0
-HasThreadName sizes (thread_ref.Named name) = IsName sizes name
-HasThreadName sizes (thread_ref.Numbered thread) = Unit {0}
-
--- a target referred to by name has such a name
-abbrev HasTargetName : Sizes → TargetRef → Type 0
-HasTargetName sizes (target_ref.Named name) = IsName sizes name
-HasTargetName sizes (target_ref.Currency currency) = Unit {0}
-HasTargetName sizes (target_ref.Thread thread) = Unit {0}
-
--- a kernel with these sizes takes each name of the command
-abbrev HasCommandNames : Sizes → Command → Type 0
-HasCommandNames sizes (MakeTicket amount currency) = HasCurrencyName sizes currency
-HasCommandNames sizes (MakeCurrency name) = IsName sizes name
-HasCommandNames sizes (RemoveCurrency currency) = HasCurrencyName sizes currency
-HasCommandNames sizes (Fund ticket target) = HasTargetName sizes target
-HasCommandNames sizes (MakeThread name script) = IsThreadName sizes name
-HasCommandNames sizes (RemoveThread thread) = HasThreadName sizes thread
-HasCommandNames sizes (Kill thread) = HasThreadName sizes thread
-HasCommandNames sizes (MakeFunded amount currency name script) = HasCurrencyName sizes currency × IsThreadName sizes name
-HasCommandNames sizes other = Unit {0}
+-- a kernel with these sizes takes the name of the verb's argument, if it has one
+abbrev pub HasName : Sizes → Verb → Value → Type 0
+HasName sizes v (value.Currency (currency_ref.Named name)) = IsName sizes name
+HasName sizes v (value.Target (target_ref.Named name)) = IsName sizes name
+HasName sizes v (value.Thread (thread_ref.Named name)) = IsName sizes name
+HasName sizes verb.MakeCurrency (value.Name name) = IsName sizes name
+HasName sizes v (value.Name name) = IsThreadName sizes name
+HasName sizes v other = Unit {0}
 
 -- a kernel with these sizes takes each name of the event
 abbrev pub HasNames : Sizes → Event → Type 0
-HasNames sizes (event.Command command) = HasCommandNames sizes command
+HasNames sizes (event.Command c) = All (HasName sizes (parts c).0) (parts c).1
 HasNames sizes other = Unit {0}
+
+-- how the arguments refer to a currency or a thread
+abbrev pub reference_in : List Value → Reference
+reference_in (value.Currency (currency_ref.Numbered currency) ∷ others) = by.Currency
+reference_in (value.Target (target_ref.Currency currency) ∷ others) = by.Currency
+reference_in (value.Target (target_ref.Thread thread) ∷ others) = by.Thread
+reference_in (value.Thread (thread_ref.Numbered thread) ∷ others) = by.Thread
+reference_in (v ∷ others) = reference_in others
+reference_in [] = by.Name
+
+-- the fields with this argument
+abbrev pub with_argument : PlainEvent → Value → PlainEvent
+with_argument e (value.Amount amount) = record e { amount = amount }
+with_argument e (value.Ticket ticket) = record e { ticket = ticket }
+with_argument e (value.Currency (currency_ref.Named currency)) = record e { currency = plain_name currency }
+with_argument e (value.Currency (currency_ref.Numbered currency)) = record e { object = currency }
+with_argument e (value.Target (target_ref.Named target)) = record e { name = plain_name target }
+with_argument e (value.Target (target_ref.Currency currency)) = record e { object = currency }
+with_argument e (value.Target (target_ref.Thread thread)) = record e { object = thread }
+with_argument e (value.Thread (thread_ref.Named thread)) = record e { name = plain_name thread }
+with_argument e (value.Thread (thread_ref.Numbered thread)) = record e { object = thread }
+with_argument e (value.Name name) = record e { name = plain_name name }
+with_argument e (value.Script script) = record e { script = script }
+with_argument e other = e
 
 -- a command in plain fields
 abbrev pub plain_command : Command → PlainEvent
-plain_command (MakeTicket amount (currency_ref.Named currency)) = record (of_kind EventKind.MakeTicket) { amount = amount; currency = plain_name currency }
-plain_command (MakeTicket amount (currency_ref.Numbered currency)) = record (of_kind EventKind.MakeTicketIn) { amount = amount; object = currency }
-plain_command (RemoveTicket ticket) = record (of_kind EventKind.RemoveTicket) { ticket = ticket }
-plain_command (MakeCurrency name) = record (of_kind EventKind.MakeCurrency) { name = plain_name name }
-plain_command (RemoveCurrency (currency_ref.Named currency)) = record (of_kind EventKind.RemoveCurrency) { currency = plain_name currency }
-plain_command (RemoveCurrency (currency_ref.Numbered currency)) = record (of_kind EventKind.RemoveCurrencyNumbered) { object = currency }
-plain_command (Fund ticket (target_ref.Named target)) = record (of_kind EventKind.Fund) { ticket = ticket; name = plain_name target }
-plain_command (Fund ticket (target_ref.Currency currency)) = record (of_kind EventKind.FundCurrency) { ticket = ticket; object = currency }
-plain_command (Fund ticket (target_ref.Thread thread)) = record (of_kind EventKind.FundThread) { ticket = ticket; object = thread }
-plain_command (Unfund ticket) = record (of_kind EventKind.Unfund) { ticket = ticket }
-plain_command (SetTicket ticket amount) = record (of_kind EventKind.SetTicket) { ticket = ticket; amount = amount }
-plain_command (MakeThread name script) = record (of_kind EventKind.MakeThread) { name = plain_name name; script = script }
-plain_command (RemoveThread (thread_ref.Named thread)) = record (of_kind EventKind.RemoveThread) { name = plain_name thread }
-plain_command (RemoveThread (thread_ref.Numbered thread)) = record (of_kind EventKind.RemoveThreadNumbered) { object = thread }
-plain_command (Kill (thread_ref.Named thread)) = record (of_kind EventKind.Kill) { name = plain_name thread }
-plain_command (Kill (thread_ref.Numbered thread)) = record (of_kind EventKind.KillNumbered) { object = thread }
-plain_command (MakeFunded amount (currency_ref.Named currency) name script) = record (of_kind EventKind.MakeFunded) { amount = amount; currency = plain_name currency; name = plain_name name; script = script }
-plain_command (MakeFunded amount (currency_ref.Numbered currency) name script) = record (of_kind EventKind.MakeFundedIn) { amount = amount; object = currency; name = plain_name name; script = script }
-plain_command (Listing Tickets) = of_kind EventKind.ListTickets
-plain_command (Listing Currencies) = of_kind EventKind.ListCurrencies
-plain_command (Listing Threads) = of_kind EventKind.ListThreads
+plain_command c = fold with_argument (of_kind (kind.Command (parts c).0 (reference_in (parts c).1))) (parts c).1
+
+-- the number that a trap sends, or 0
+abbrev sent_by : Action → ℕ
+sent_by (trap.Call port number) = number
+sent_by (trap.Reply number) = number
+sent_by (trap.Serve port number) = number
+sent_by other = 0
+
+-- the number that a trap draws by, or 0
+abbrev drawn_by : Action → ℕ
+drawn_by (trap.Unlock mutex number) = number
+drawn_by other = 0
 
 -- a trap in plain fields
 abbrev pub plain_trap : ℕ → ℕ → Action → PlainEvent
-plain_trap p ran action.Yield = record (of_kind EventKind.Yield) { processor = p; ticks = ran }
-plain_trap p ran (action.Call port number) = record (of_kind EventKind.Call) { processor = p; ticks = ran; object = port; sent = number }
-plain_trap p ran (action.Receive port) = record (of_kind EventKind.Receive) { processor = p; ticks = ran; object = port }
-plain_trap p ran (action.Reply number) = record (of_kind EventKind.Reply) { processor = p; ticks = ran; sent = number }
-plain_trap p ran (action.Lock mutex) = record (of_kind EventKind.Lock) { processor = p; ticks = ran; object = mutex }
-plain_trap p ran (action.Unlock mutex d) = record (of_kind EventKind.Unlock) { processor = p; ticks = ran; object = mutex; number = plain_wide d }
-plain_trap p ran action.Exit = record (of_kind EventKind.Exit) { processor = p; ticks = ran }
-plain_trap p ran (action.Sleep n) = record (of_kind EventKind.Sleep) { processor = p; ticks = ran }
-plain_trap p ran (action.Serve port number) = record (of_kind EventKind.Serve) { processor = p; ticks = ran; object = port; sent = number }
+plain_trap p ran action = record (of_kind (kind.Trap (with_numbers action tt tt tt tt))) {
+  processor = p;
+  ticks = ran;
+  object = object_of action;
+  sent = sent_by action;
+  number = plain_wide (drawn_by action);
+}
 
 -- an event in plain fields
 abbrev pub plain_event : Event → PlainEvent
-plain_event (event.Command command) = plain_command command
-plain_event (event.Draw p d) = record (of_kind EventKind.Draw) { processor = p; number = plain_wide d }
-plain_event (event.Expire p) = record (of_kind EventKind.Expire) { processor = p }
+plain_event (event.Command c) = plain_command c
+plain_event (event.Draw p d) = record (of_kind kind.Draw) { processor = p; number = plain_wide d }
+plain_event (event.Expire p) = record (of_kind kind.Expire) { processor = p }
 plain_event (event.Trap p ran action) = plain_trap p ran action
-plain_event (event.Preempt p ticks) = record (of_kind EventKind.Preempt) { processor = p; ticks = ticks }
-plain_event (event.Overrun p ticks) = record (of_kind EventKind.Overrun) { processor = p; ticks = ticks }
-plain_event (event.Wake t) = record (of_kind EventKind.Wake) { object = t }
+plain_event (event.Preempt p ticks) = record (of_kind kind.Preempt) { processor = p; ticks = ticks }
+plain_event (event.Overrun p ticks) = record (of_kind kind.Overrun) { processor = p; ticks = ticks }
+plain_event (event.Wake t) = record (of_kind kind.Wake) { object = t }

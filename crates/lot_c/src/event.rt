@@ -1,86 +1,17 @@
 //! Events in plain fields.
-ghost use Rattle.std.specs.Prelude.{◌≡◌, ◌⊎◌, Ok};
-ghost use Rattle.lot_machine.specs.Bounds.{IsBetween};
-ghost use Rattle.lot_machine.specs.declared.event.Event.TheVariants as event;
-ghost use Rattle.lot_machine.specs.declared.sizes.Sizes.{Sizes};
+ghost use Rattle.std.specs.Prelude.{◌≡◌};
 ghost use Rattle.lot_machine.specs.State.{sizes_of};
-ghost use Rattle.lot_c.specs.Events.{event_meant, result_map};
+ghost use Rattle.lot_c.specs.Events.{action_in, argument_given, event_meant};
 
+use crate::kind::{EventKind, Reference};
 use crate::name::PlainName;
 use crate::status::Status;
 use crate::wide::Wide;
-use lot_machine::{Action, Command, CurrencyRef, Event, Kind, Limits, TargetRef, ThreadRef};
-
-/// The kinds of events.
-const MAKE_TICKET: u32 = 1;
-
-const REMOVE_TICKET: u32 = 2;
-
-const MAKE_CURRENCY: u32 = 3;
-
-const REMOVE_CURRENCY: u32 = 4;
-
-const FUND: u32 = 5;
-
-const UNFUND: u32 = 6;
-
-const MAKE_THREAD: u32 = 7;
-
-const MAKE_FUNDED: u32 = 8;
-
-const LIST_TICKETS: u32 = 9;
-
-const LIST_CURRENCIES: u32 = 10;
-
-const LIST_THREADS: u32 = 11;
-
-const DRAW: u32 = 12;
-
-const EXPIRE: u32 = 13;
-
-const YIELD: u32 = 14;
-
-const CALL: u32 = 15;
-
-const RECEIVE: u32 = 16;
-
-const REPLY: u32 = 17;
-
-const LOCK: u32 = 18;
-
-const UNLOCK: u32 = 19;
-
-const EXIT: u32 = 20;
-
-const SERVE: u32 = 21;
-
-const SET_TICKET: u32 = 22;
-
-const REMOVE_THREAD: u32 = 23;
-
-const SLEEP: u32 = 24;
-
-const PREEMPT: u32 = 25;
-
-const OVERRUN: u32 = 26;
-
-const WAKE: u32 = 27;
-
-const MAKE_TICKET_IN: u32 = 28;
-
-const REMOVE_CURRENCY_NUMBERED: u32 = 29;
-
-const FUND_CURRENCY: u32 = 30;
-
-const FUND_THREAD: u32 = 31;
-
-const REMOVE_THREAD_NUMBERED: u32 = 32;
-
-const MAKE_FUNDED_IN: u32 = 33;
-
-const KILL: u32 = 34;
-
-const KILL_NUMBERED: u32 = 35;
+use lot_machine::{
+    Action, Arguments, CurrencyRef, Event, Limits, Name, TargetRef, ThreadRef, TrapWord, Verb,
+    command_of,
+};
+use std::marker::Model;
 
 /// An event in plain fields. Its kind decides which other fields the library reads.
 #[repr(C)]
@@ -115,159 +46,103 @@ impl PlainEvent {
     pub(crate) fn read(&self, limits: &Limits) -> Result<Event, Status>
         ensures { result ≡ event_meant (sizes_of limits.now) self.now }
     {
-        match self.kind {
-            MAKE_TICKET..=LIST_THREADS | SET_TICKET | REMOVE_THREAD => {
-                Ok(Event::Command(self.read_command(limits)?))
+        let processor = self.processor;
+        let ticks = self.ticks;
+        match EventKind::numbered(self.kind).ok_or(Status::BadKind)? {
+            EventKind::Command(verb, reference) => {
+                let mut arguments = Fields {
+                    event: self,
+                    limits,
+                    verb,
+                    reference,
+                };
+                Ok(Event::Command(command_of(verb, &mut arguments)?))
             }
-            MAKE_TICKET_IN..=MAKE_FUNDED_IN => Ok(Event::Command(self.read_numbered(limits)?)),
-            KILL..=KILL_NUMBERED => Ok(Event::Command(self.read_kill(limits)?)),
-            DRAW..=SERVE | SLEEP => Ok(self.read_turn()),
-            PREEMPT => Ok(Event::Preempt {
-                processor: self.processor,
-                ticks: self.ticks,
-            }),
-            OVERRUN => Ok(Event::Overrun {
-                processor: self.processor,
-                ticks: self.ticks,
-            }),
-            WAKE => Ok(Event::Wake {
+            EventKind::Trap(word) => Ok(Event::Trap(processor, ticks, self.action(word))),
+            EventKind::Draw => Ok(Event::Draw(processor, self.number.number())),
+            EventKind::Expire => Ok(Event::Expire(processor)),
+            EventKind::Preempt => Ok(Event::Preempt { processor, ticks }),
+            EventKind::Overrun => Ok(Event::Overrun { processor, ticks }),
+            EventKind::Wake => Ok(Event::Wake {
                 thread: self.object,
             }),
-            _ => Err(Status::BadKind),
         }
     }
 
-    /// The command in these fields, or the status for invalid fields. It refers to a currency or a thread by name.
-    fn read_command(&self, limits: &Limits) -> Result<Command, Status>
-        requires kind { IsBetween MAKE_TICKET LIST_THREADS self.now.kind
-            ⊎ IsBetween SET_TICKET REMOVE_THREAD self.now.kind }
-        ensures { event_meant (sizes_of limits.now) self.now ≡ result_map event.Command result }
+    /// What a trap with this word asks for in these fields.
+    fn action(&self, word: TrapWord) -> Action
+        ensures { result ≡ action_in self.now word }
     {
-        let ticket = self.ticket;
-        let amount = self.amount;
-        match self.kind {
-            MAKE_TICKET => Ok(Command::MakeTicket {
-                amount,
-                currency: CurrencyRef::Named(self.currency.read(limits)?),
-            }),
-            REMOVE_TICKET => Ok(Command::RemoveTicket { ticket }),
-            MAKE_CURRENCY => Ok(Command::MakeCurrency {
-                name: self.name.read(limits)?,
-            }),
-            REMOVE_CURRENCY => Ok(Command::RemoveCurrency {
-                currency: CurrencyRef::Named(self.currency.read(limits)?),
-            }),
-            FUND => Ok(Command::Fund {
-                ticket,
-                target: TargetRef::Named(self.name.read(limits)?),
-            }),
-            UNFUND => Ok(Command::Unfund { ticket }),
-            SET_TICKET => Ok(Command::SetTicket { ticket, amount }),
-            MAKE_THREAD => Ok(Command::MakeThread {
-                name: self.name.read_thread(limits)?,
-                script: self.script,
-            }),
-            REMOVE_THREAD => Ok(Command::RemoveThread {
-                thread: ThreadRef::Named(self.name.read(limits)?),
-            }),
-            MAKE_FUNDED => self.read_funded(limits),
-            LIST_TICKETS => Ok(Command::List(Kind::Tickets)),
-            LIST_CURRENCIES => Ok(Command::List(Kind::Currencies)),
-            LIST_THREADS => Ok(Command::List(Kind::Threads)),
-            _ => unreachable!(),
+        word.with(self.object, self.sent, self.number.number(), ())
+    }
+}
+
+/// The arguments of a command in plain fields, for a kernel with these limits.
+#[derive(Drop)]
+struct Fields<'a> {
+    event: &'a PlainEvent,
+    limits: &'a Limits,
+    verb: Verb,
+    reference: Reference,
+}
+
+impl<'a> Model for Fields<'a> {
+    ghost use Rattle.lot_machine.specs.State.{sizes_of};
+    ghost use Rattle.lot_c.specs.Events.{CommandFields};
+
+    ghost Value = { CommandFields };
+
+    ghost view = { λ fields. record {
+      event = fields.event.now;
+      sizes = sizes_of fields.limits.now;
+      verb = fields.verb;
+      reference = fields.reference;
+    } };
+}
+
+impl Arguments for Fields<'_> {
+    type Refusal = Status;
+
+    ghost gives = { argument_given };
+
+    fn amount(&mut self) -> Result<u64, Status> {
+        Ok(self.event.amount)
+    }
+
+    fn ticket(&mut self) -> Result<u64, Status> {
+        Ok(self.event.ticket)
+    }
+
+    fn currency(&mut self) -> Result<CurrencyRef, Status> {
+        match self.reference {
+            Reference::Currency => Ok(CurrencyRef::Numbered(self.event.object)),
+            _ => Ok(CurrencyRef::Named(self.event.currency.read(self.limits)?)),
         }
     }
 
-    /// The command that makes a thread with its ticket, or the status for invalid fields.
-    fn read_funded(&self, limits: &Limits) -> Result<Command, Status>
-        requires kind { self.now.kind ≡ MAKE_FUNDED }
-        ensures { event_meant (sizes_of limits.now) self.now ≡ result_map event.Command result }
-    {
-        Ok(Command::MakeFunded {
-            amount: self.amount,
-            currency: CurrencyRef::Named(self.currency.read(limits)?),
-            name: self.name.read_thread(limits)?,
-            script: self.script,
-        })
-    }
-
-    /// The command in these fields, which refers to a currency or a thread by number, or the status for invalid fields.
-    fn read_numbered(&self, limits: &Limits) -> Result<Command, Status>
-        requires kind { IsBetween MAKE_TICKET_IN MAKE_FUNDED_IN self.now.kind }
-        ensures { event_meant (sizes_of limits.now) self.now ≡ result_map event.Command result }
-    {
-        let ticket = self.ticket;
-        let amount = self.amount;
-        let number = self.object;
-        match self.kind {
-            MAKE_TICKET_IN => Ok(Command::MakeTicket {
-                amount,
-                currency: CurrencyRef::Numbered(number),
-            }),
-            REMOVE_CURRENCY_NUMBERED => Ok(Command::RemoveCurrency {
-                currency: CurrencyRef::Numbered(number),
-            }),
-            FUND_CURRENCY => Ok(Command::Fund {
-                ticket,
-                target: TargetRef::Currency(number),
-            }),
-            FUND_THREAD => Ok(Command::Fund {
-                ticket,
-                target: TargetRef::Thread(number),
-            }),
-            REMOVE_THREAD_NUMBERED => Ok(Command::RemoveThread {
-                thread: ThreadRef::Numbered(number),
-            }),
-            MAKE_FUNDED_IN => Ok(Command::MakeFunded {
-                amount,
-                currency: CurrencyRef::Numbered(number),
-                name: self.name.read_thread(limits)?,
-                script: self.script,
-            }),
-            _ => unreachable!(),
+    fn target(&mut self) -> Result<TargetRef, Status> {
+        match self.reference {
+            Reference::Name => Ok(TargetRef::Named(self.event.name.read(self.limits)?)),
+            Reference::Currency => Ok(TargetRef::Currency(self.event.object)),
+            Reference::Thread => Ok(TargetRef::Thread(self.event.object)),
         }
     }
 
-    /// The kill of a thread by name or by number, or the status for invalid fields.
-    fn read_kill(&self, limits: &Limits) -> Result<Command, Status>
-        requires kind { IsBetween KILL KILL_NUMBERED self.now.kind }
-        ensures { event_meant (sizes_of limits.now) self.now ≡ result_map event.Command result }
-    {
-        match self.kind {
-            KILL => Ok(Command::Kill {
-                thread: ThreadRef::Named(self.name.read(limits)?),
-            }),
-            KILL_NUMBERED => Ok(Command::Kill {
-                thread: ThreadRef::Numbered(self.object),
-            }),
-            _ => unreachable!(),
+    fn thread(&mut self) -> Result<ThreadRef, Status> {
+        match self.reference {
+            Reference::Thread => Ok(ThreadRef::Numbered(self.event.object)),
+            _ => Ok(ThreadRef::Named(self.event.name.read(self.limits)?)),
         }
     }
 
-    /// The draw, expiry or trap in these fields.
-    fn read_turn(&self) -> Event
-        requires kind { IsBetween DRAW SERVE self.now.kind ⊎ self.now.kind ≡ SLEEP }
-        ensures { (sizes : Sizes) → event_meant sizes self.now ≡ Ok result }
-    {
-        match self.kind {
-            DRAW => Event::Draw(self.processor, self.number.number()),
-            EXPIRE => Event::Expire(self.processor),
-            YIELD => self.trap(Action::Yield),
-            CALL => self.trap(Action::Call(self.object, self.sent)),
-            RECEIVE => self.trap(Action::Receive(self.object)),
-            REPLY => self.trap(Action::Reply(self.sent)),
-            LOCK => self.trap(Action::Lock(self.object)),
-            UNLOCK => self.trap(Action::Unlock(self.object, self.number.number())),
-            SLEEP => self.trap(Action::Sleep(())),
-            EXIT => self.trap(Action::Exit),
-            SERVE => self.trap(Action::Serve(self.object, self.sent)),
-            _ => unreachable!(),
+    fn name(&mut self) -> Result<Name, Status> {
+        match self.verb {
+            Verb::MakeCurrency => self.event.name.read(self.limits),
+            _ => self.event.name.read_thread(self.limits),
         }
     }
 
-    fn trap(&self, action: Action) -> Event
-        ensures { result ≡ event.Trap self.now.processor self.now.ticks action }
-    {
-        Event::Trap(self.processor, self.ticks, action)
+    fn script(&mut self) -> Result<u32, Status> {
+        Ok(self.event.script)
     }
 }

@@ -8,6 +8,7 @@ mod event;
 mod events;
 mod handle;
 mod kernel;
+mod kind;
 pub mod laws;
 mod listing;
 mod lottery;

@@ -64,7 +64,7 @@ pub use Rattle.lot_chart.specs.Escapes.{escaped, escaped_byte}
 pub use Rattle.lot_chart.specs.Gauges.{AreColumns, AreDues, AreLinesOf, AreRenewed, EachGauge, HasPassed, HasPassedAll, HasRenewed, HaveAllPassed, HaveDues, HaveRead, HaveReadAll, IsAscending, IsAwaiting, IsColumn, IsGauge, IsGaugeOf, IsLineOf, IsMeter, IsNew, IsNewMeter, IsNow, IsRead, IsRenewed, IsSampled, IsWithin, KeepThreads, amount_for, end_tick, flow_at, flow_of, grown, grown_in, most_of, start_tick, state_of, step_of, thread_of, timed_turn}
 pub use Rattle.lot_chart.specs.Lines.{height_of, lines_after, lines_of, most_in, place_of}
 pub use Rattle.lot_chart.specs.Marks.{column_of, first_in, first_of, is_within, marked, stands_in}
-pub use Rattle.lot_chart.specs.Noted.{HasLooked, HasSearched, RanOn, command_time, commands_in, curves_after, end_in, ended_at, has_run, own_end, stretches_in, stretches_of_turn}
+pub use Rattle.lot_chart.specs.Noted.{HasLooked, HasSearched, command_time, commands_in, curves_after, end_in, ended_at, has_run, own_end, stretches_in, stretches_of_turn}
 pub use Rattle.lot_chart.specs.Ranking.{IsBefore}
 pub use Rattle.lot_chart.specs.Shares.{figure_text, share_of, tenths, whole_at}
 pub use Rattle.lot_chart.specs.Shown.{Shows, shown_of}

@@ -8,7 +8,7 @@ pub use Rattle.lot_chart.proofs.NotedFacts.{curves-are, timed-curves-are, untime
 pub use Rattle.lot_chart.proofs.Notes.{answered-noted, commands-noted, early-noted, ended-commands, ended-noted, gathered, program-few, turn-ran}
 pub use Rattle.lot_chart.proofs.Parts.{parts-after, parts-more, parts-next, parts-sample, parts-two}
 pub use Rattle.lot_chart.proofs.Places.{taken-columns}
-pub use Rattle.lot_chart.proofs.Ran.{all-numbers, columns-pushed, found-more, length-rest, on-both, on-ok, runner-there, thread-pushed}
+pub use Rattle.lot_chart.proofs.Ran.{all-numbers, columns-pushed, found-more, length-rest, on-both, on-ok, thread-pushed}
 pub use Rattle.lot_chart.proofs.Shows.{shows-plays}
 pub use Rattle.lot_chart.proofs.Steps.{first-found, first-later}
 pub use Rattle.lot_chart.proofs.Whole.{chart-is, picture-is}

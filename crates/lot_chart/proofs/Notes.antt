@@ -1,7 +1,8 @@
 -- Stretches gathered turn by turn.
-use Rattle.lot_chart.proofs.Common.{ActorTurn, Answered, By, Ended, EndedTurn, Event, HasJustMade, HasMade, IsProgram, List, MadeTurn, None, Option, Program, RanOn, Reply, Seen, Some, Stretch, TimedTurn, TurnAnswer, TurnMade, World, answer_in, ap, append-nil, append_assoc, arith, command_time, commands_in, counted_turn, counted_turns, curves_after, end_in, ended_at, false, flat_map, flat_map-append, length, length-append, lit<, map, max, names_by, opening_moment, opening_world, own_end, program_turns, refl, scheduled_turns, stretches_in, stretches_of_turn, suc, sym, system_turn, ticks_in, timed_turns, total_of, true, turn_stretches, turns-few, turns_by, turns_in_time, turns_made, turns_made-length, turns_of, world_of, ℕ, [], ◌*◌, ◌++◌, ◌+◌, ◌<◌, ◌^◌, ◌∙◌, ◌∷◌, ◌≡◌, ◌≤◌}
+use Rattle.lot_chart.proofs.Common.{ActorTurn, Answered, By, Ended, EndedTurn, Event, HasJustMade, HasMade, IsProgram, List, MadeTurn, None, Option, Program, Reply, Seen, Some, Stretch, TimedTurn, TurnAnswer, TurnMade, World, answer_in, ap, append-nil, append_assoc, arith, command_time, commands_in, counted_turn, counted_turns, curves_after, end_in, ended_at, false, flat_map, flat_map-append, length, length-append, lit<, map, max, names_by, opening_moment, opening_world, own_end, program_turns, refl, scheduled_turns, stretches_in, stretches_of_turn, suc, sym, system_turn, ticks_in, timed_turns, total_of, true, turn_stretches, turns-few, turns_by, turns_in_time, turns_made, turns_made-length, turns_of, world_of, ℕ, [], ◌*◌, ◌++◌, ◌+◌, ◌<◌, ◌^◌, ◌∙◌, ◌∷◌, ◌≡◌, ◌≤◌}
 use Rattle.lot_simulation.specs.Timed.{timed_room}
-use Rattle.lot_chart.proofs.Ran.{ran-on}
+use Rattle.lot_playback.specs.TicksBelow.{RanOn}
+use Rattle.lot_playback.proofs.TickFacts.{ran-on}
 use Rattle.lot_playback.specs.declared.turn.Turn.{Turn as ATurn}
 
 -- ---- how many turns there are

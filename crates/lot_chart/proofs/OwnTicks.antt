@@ -97,19 +97,19 @@ abbrev OwnFrom : State → ℕ → State → Type 0
 OwnFrom s i a = (a.limits ≡ s.limits) × Comes s (own_ticks a.records i) (own_ticks s.records i)
 
 -- and a command changes no other
-change-own : (s : State) (i : ℕ) → Keeps Console s (OwnFrom s i)
-change-own s i a (NewThread t) allowed (limits, (most, exact)) = (limits, by-free (free_threads a) (λ once. ap (λ b. cond {A = List ℕ} b a.freed.threads []) (ap (λ (sizes : Sizes). sizes.reuse) limits ∙ once)))
+change-own : (c : Command) (s : State) (i : ℕ) → Keeps (Console c) s (OwnFrom s i)
+change-own c s i a (NewThread t) allowed (limits, (most, exact)) = (limits, by-free (free_threads a) (λ once. ap (λ b. cond {A = List ℕ} b a.freed.threads []) (ap (λ (sizes : Sizes). sizes.reuse) limits ∙ once)))
   where
     by-free : (free : List ℕ) → (s.limits.reuse ≡ false → free ≡ []) → Comes s (own_ticks (placed a.records free newborn) i) (own_ticks s.records i)
     by-free [] empty = let same : own_ticks (a.records ++ newborn ∷ []) i ≡ own_ticks a.records i = grown a.records i in (omega (arith, same, most), λ once. same ∙ exact once)
     by-free (j ∷ free) empty = (omega (arith, placed-less a.records j i, most), λ once. let never : j ∷ free ≡ [] = empty once in cc)
-change-own s i a (PutRecord t r) allowed same = absurd (allowed.mover refl)
-change-own s i a other allowed same = same
+change-own c s i a (PutRecord t r) allowed same = absurd (allowed.mover refl)
+change-own c s i a other allowed same = same
 
 command-adds : (s : State) (i : ℕ) (c : Command) → Adds s i (command_step s c)
 command-adds s i (Kill thread) =
     stays s i (command_step s (Kill thread)) (ap (λ xs. get_or xs i 0) (kill-even (λ (r : Record). r.ticks) (λ r st compensation delivered. refl) s thread)) (command-silent s (Kill thread)).2
-command-adds s i c = comes-silent s i (command_step s c) (kept (OwnFrom s i) (change-own s i) (command-leads s c) (refl, as-much s _ _ refl)).1 (command-silent s c).2
+command-adds s i c = comes-silent s i (command_step s c) (kept (OwnFrom s i) (change-own c s i) (command-leads s c) (refl, as-much s _ _ refl)).1 (command-silent s c).2
 
 draw-adds : (s : State) (i p d : ℕ) → Adds s i (draw s p d)
 draw-adds s i p d = at (winner (map (weight_of s) (ready_threads s.records)) d) refl

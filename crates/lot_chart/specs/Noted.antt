@@ -76,12 +76,6 @@ has_run (reply.Expired t ticks) = true
 has_run (reply.Trapped t ticks came ends) = true
 has_run other = false
 
--- if the reply says that a thread ran, the thread ran on this processor
-abbrev pub RanOn : State → ℕ → Reply → Type 0
-RanOn s p (reply.Expired t ticks) = (0 < p) × (thread_on s.records p ≡ Some t)
-RanOn s p (reply.Trapped t ticks came ends) = (0 < p) × (thread_on s.records p ≡ Some t)
-RanOn s p other = ⊤
-
 -- Before this actor's turn this many currency numbers were given, and the search has found those of the currencies
 -- above the thread on the actor's processor.
 pub record HasLooked (s : State) (actor : ℕ) (above : FoundNodes) (count : ℕ) : Type 0 where

@@ -15,8 +15,9 @@ ghost use Rattle.lot_engine.specs.Searching.{HasLayoutFor, HasThoseAbove};
 ghost use Rattle.lot_engine.specs.Seen.{world_of};
 ghost use Rattle.lot_system.specs.Leaving.{ends_refused};
 ghost use Rattle.lot_playback.specs.Stages.{HasMade, turns_left};
+ghost use Rattle.lot_playback.specs.TicksBelow.{RanOn};
 ghost use Rattle.lot_playback.specs.Turns.{program_turns};
-ghost use Rattle.lot_chart.specs.Noted.{HasNoted, HasSearched, RanOn, command_time, commands_in, curves_after, end_in};
+ghost use Rattle.lot_chart.specs.Noted.{HasNoted, HasSearched, command_time, commands_in, curves_after, end_in};
 ghost use Rattle.lot_chart.specs.Noted.{stretches_in};
 ghost use Rattle.lot_chart.specs.Noted as noted;
 

@@ -24,16 +24,9 @@ use std::thread::Threads;
 use told::VIEWS;
 
 /// Two threads that compute, with base tickets of 10 and 5.
-const SPINNERS: &str = "script spin
-compute 1000
-endscript
-mktkt 10 base
-mkthr a spin
-fund 1 a
-mktkt 5 base
-mkthr b spin
-fund 2 b
-";
+const SPINNERS: &str =
+    "script spin\ncompute 1000\nendscript\nmktkt 10 base\nmkthr a spin\nfund 1 a\nmktkt 5 base\nmkthr b spin\n\
+    fund 2 b\n";
 
 /// The lines of their commands.
 const SPINNERS_MADE: &str = "0 ticket 1
@@ -216,16 +209,9 @@ total turns 0 quanta 0 ticks 0
 ";
 
 /// A script that ends within its quantum, and then a draw without threads.
-const ENDING: &str = "lottery 1
-quantum 10
-script s
-compute 5
-endscript
-mkthr a s
-mktkt 7 base
-fund 1 a
-schedule 0 0 0 1 1 1
-";
+const ENDING: &str =
+    "lottery 1\nquantum 10\nscript s\ncompute 5\nendscript\nmkthr a s\nmktkt 7 base\nfund 1 a\n\
+    schedule 0 0 0 1 1 1\n";
 
 const ENDED: &str = "0 thread 1
 0 ticket 1
@@ -240,14 +226,8 @@ total turns 6 quanta 1 ticks 6
 ";
 
 /// Two processors and one thread, and one turn of the console too many, which doesn't count.
-const TWO_PROCESSORS: &str = "lottery 1
-processors 2
-script spin
-compute 150
-endscript
-fundx 10 base a spin
-schedule 0 1 2 1 2 0
-";
+const TWO_PROCESSORS: &str =
+    "lottery 1\nprocessors 2\nscript spin\ncompute 150\nendscript\nfundx 10 base a spin\nschedule 0 1 2 1 2 0\n";
 
 const TWO_PROCESSORS_PLAYED: &str = "0 funded 1 1
 1 draw 4 of 10 thread 1
@@ -263,15 +243,8 @@ total turns 5 quanta 2 ticks 100
 ";
 
 /// Refused commands are turns.
-const REFUSED_COMMANDS: &str = "lottery 1
-limits 1 1 1
-mktkt 1 base
-mktkt 1 base
-mkcur Bad
-mkthr a none
-fund 9 a
-schedule 0 0 0 0 0
-";
+const REFUSED_COMMANDS: &str =
+    "lottery 1\nlimits 1 1 1\nmktkt 1 base\nmktkt 1 base\nmkcur Bad\nmkthr a none\nfund 9 a\nschedule 0 0 0 0 0\n";
 
 const COMMANDS_REFUSED: &str = "0 ticket 1
 0 refused 13 Full
@@ -284,33 +257,12 @@ total turns 5 quanta 0 ticks 0
 ";
 
 /// The paper's currency graph: alice and bob share base, and pass on their values to their tasks (4.4).
-const CURRENCY_GRAPH: &str = "lottery 1
-script spin
-compute 100
-endscript
-mkcur alice
-mkcur bob
-mkcur task1
-mkcur task2
-mkcur task3
-mktkt 1000 base
-fund 1 alice
-mktkt 2000 base
-fund 2 bob
-mktkt 100 alice
-fund 3 task1
-mktkt 200 alice
-fund 4 task2
-mktkt 100 bob
-fund 5 task3
-fundx 200 task2 thread2 spin
-fundx 300 task2 thread3 spin
-fundx 100 task3 thread4 spin
-lscur
-lstkt
-lsthr
-schedule 0 0 0 0 0 0 0 0 0 0 0 0 0 0 0 0 0 0 0 0 0
-";
+const CURRENCY_GRAPH: &str =
+    "lottery 1\nscript spin\ncompute 100\nendscript\nmkcur alice\nmkcur bob\nmkcur task1\nmkcur task2\n\
+    mkcur task3\nmktkt 1000 base\nfund 1 alice\nmktkt 2000 base\nfund 2 bob\nmktkt 100 alice\nfund 3 task1\n\
+    mktkt 200 alice\nfund 4 task2\nmktkt 100 bob\nfund 5 task3\nfundx 200 task2 thread2 spin\n\
+    fundx 300 task2 thread3 spin\nfundx 100 task3 thread4 spin\nlscur\nlstkt\nlsthr\n\
+    schedule 0 0 0 0 0 0 0 0 0 0 0 0 0 0 0 0 0 0 0 0 0\n";
 
 const CURRENCY_LISTINGS: &str = "0 currency 1
 0 currency 2
@@ -359,23 +311,10 @@ total turns 21 quanta 0 ticks 0
 ";
 
 /// A client calls a server with 41, and the reply is 42.
-const CALL_AND_REPLY: &str = "lottery 1
-quantum 10
-port p
-script srv
-receive p
-add 1
-reply
-endscript
-script cli
-set 41
-call p
-compute 2
-endscript
-fundx 5 base s srv
-fundx 5 base c cli
-schedule 0 0 1 1 1 1 1 1 1 1 1 1
-";
+const CALL_AND_REPLY: &str =
+    "lottery 1\nquantum 10\nport p\nscript srv\nreceive p\nadd 1\nreply\nendscript\n\
+    script cli\nset 41\ncall p\ncompute 2\nendscript\nfundx 5 base s srv\nfundx 5 base c cli\n\
+    schedule 0 0 1 1 1 1 1 1 1 1 1 1\n";
 
 const CALL_AND_REPLY_PLAYED: &str = "0 funded 1 1
 0 funded 2 2
@@ -397,16 +336,8 @@ total turns 12 quanta 4 ticks 9
 ";
 
 /// A loop of 9 ticks and the exit after it, in quanta of 9 ticks.
-const LOOP_IN_TWO: &str = "lottery 1
-quantum 9
-script s
-loop 2
-compute 3
-end
-endscript
-fundx 1 base a s
-schedule 0 1 1 1 1
-";
+const LOOP_IN_TWO: &str =
+    "lottery 1\nquantum 9\nscript s\nloop 2\ncompute 3\nend\nendscript\nfundx 1 base a s\nschedule 0 1 1 1 1\n";
 
 const LOOP_IN_TWO_PLAYED: &str = "0 funded 1 1
 1 draw 0 of 1 thread 1
@@ -420,16 +351,8 @@ total turns 5 quanta 2 ticks 10
 ";
 
 /// The listing above, in one quantum.
-const LOOP_IN_ONE: &str = "lottery 1
-quantum 10
-script s
-loop 2
-compute 3
-end
-endscript
-fundx 1 base a s
-schedule 0 1 1 1 1
-";
+const LOOP_IN_ONE: &str =
+    "lottery 1\nquantum 10\nscript s\nloop 2\ncompute 3\nend\nendscript\nfundx 1 base a s\nschedule 0 1 1 1 1\n";
 
 const LOOP_IN_ONE_PLAYED: &str = "0 funded 1 1
 1 draw 0 of 1 thread 1
@@ -443,18 +366,9 @@ total turns 5 quanta 1 ticks 10
 ";
 
 /// A currency worth 256 units, one of base: a thread has 2 of them and the other 253, so both print as 0.
-const LESS_THAN_ONE: &str = "lottery 2
-script s
-compute 100
-endscript
-mkcur c
-mktkt 1 base
-fund 1 c
-fundx 10 c a s
-fundx 990 c b s
-lsthr
-schedule 0 0 0 0 0 0 1
-";
+const LESS_THAN_ONE: &str =
+    "lottery 2\nscript s\ncompute 100\nendscript\nmkcur c\nmktkt 1 base\nfund 1 c\nfundx 10 c a s\n\
+    fundx 990 c b s\nlsthr\nschedule 0 0 0 0 0 0 1\n";
 
 const LESS_THAN_ONE_PLAYED: &str = "0 currency 1
 0 ticket 1
@@ -473,19 +387,9 @@ total turns 7 quanta 1 ticks 0
 ";
 
 /// Three threads share 100 of base at unit 256: 8533 each, listed as 33.
-const A_THIRD_EACH: &str = "lottery 2
-script s
-compute 100
-endscript
-mkcur g
-mktkt 100 base
-fund 1 g
-fundx 1 g a s
-fundx 1 g b s
-fundx 1 g c s
-lsthr
-schedule 0 0 0 0 0 0 0 1
-";
+const A_THIRD_EACH: &str =
+    "lottery 2\nscript s\ncompute 100\nendscript\nmkcur g\nmktkt 100 base\nfund 1 g\nfundx 1 g a s\nfundx 1 g b s\n\
+    fundx 1 g c s\nlsthr\nschedule 0 0 0 0 0 0 0 1\n";
 
 const A_THIRD_EACH_PLAYED: &str = "0 currency 1
 0 ticket 1
@@ -508,26 +412,10 @@ total turns 8 quanta 1 ticks 0
 
 /// A waiter lends to a mutex's owner, which lends to its server. With this seed the threads 3, 2 and 1 win the first
 /// draws.
-const CHAIN_OF_LENDS: &str = "lottery 1
-seed 1270
-port p
-mutex m
-script waiter
-lock m
-endscript
-script owner
-lock m
-call p
-endscript
-script server
-receive p
-endscript
-fundx 300 base w waiter
-fundx 100 base o owner
-fundx 50 base v server
-lsthr
-schedule 0 0 0 1 1 1 1 1 1 1 0
-";
+const CHAIN_OF_LENDS: &str =
+    "lottery 1\nseed 1270\nport p\nmutex m\nscript waiter\nlock m\nendscript\n\
+    script owner\nlock m\ncall p\nendscript\nscript server\nreceive p\nendscript\nfundx 300 base w waiter\n\
+    fundx 100 base o owner\nfundx 50 base v server\nlsthr\nschedule 0 0 0 1 1 1 1 1 1 1 0\n";
 
 const CHAIN_OF_LENDS_PLAYED: &str = "0 funded 1 1
 0 funded 2 2
@@ -659,15 +547,9 @@ fn long_comment(rt: HostRuntime) {
 }
 
 /// A strict input in which a thread's second lock of one mutex is refused.
-const STRICT: &str = "lottery 3
-quantum 10
-strict
-for 12
-mutex m
-script twice
-lock m lock m unlock m endscript
-fundx 1 base a twice
-";
+const STRICT: &str =
+    "lottery 3\nquantum 10\nstrict\nfor 12\nmutex m\nscript twice\nlock m lock m unlock m endscript\n\
+    fundx 1 base a twice\n";
 
 /// Its lines and its report.
 const STRICT_PLAYED: &str = "0 0 funded 1 1

@@ -1,5 +1,5 @@
 -- A turn writes few lines of lots and loans, compensates only for less than a quantum, and leaves names short.
-use Rattle.lot_explain.proofs.Common.{All, All-head, All-nil, All-push, All-set, All-tail, BadAmount, BadName, BadProcessor, BadTicks, Bool, Busy, Command, Event, Full, Fund, HasShortName, HasSizesOf, IsInOrder, IsWithinBounds, LineStyle, List, MakeFunded, MakeThread, NameTaken, NoCurrency, NoScript, None, NotRunning, Option, Program, Refusal, RemoveThread, RemoveTicket, ScriptTrap, SetTicket, Sizes, Slice, Some, State, Thread, Unfund, Won, World, actor_event, all-pass, ap, are_threads_full, are_tickets_full, arith, command-grown, command_effect, command_refusal, command_step, cond, console_turn, currency_meant, entrants_in, event_effect, event_of_slice, event_refusal, false, free_threads, is_bad_amount, is_bad_processor, is_no_script, is_none, is_none_free, is_some, is_taken, is_thread_name, leb-false, length, length-append, length-set, loan_lines, loans_of, lot_diagnostics, lots_of, lots_text, ltb-false, mul-le-mul_right, nat_le, nat_lt, next_name, not, number_of, opening-order, opening_world, or_parts, other-sizes, placed, processor_event, processor_of, processor_turn, refl, resolved, slice_on, some-injective, step, step-order, step-sizes, subst, sym, system_turn, thread_meant, thread_on, true, unless_refused, unrefused, unwrap_or, used_there, won_in, won_lines, ℕ, [], ◌&&◌, ◌*◌, ◌+◌, ◌-◌, ◌==◌, ◌^◌, ◌||◌, ◌∙◌, ◌∷◌, ◌≡◌, ◌≤◌}
+use Rattle.lot_explain.proofs.Common.{All, All-head, All-nil, All-push, All-set, All-tail, BadAmount, BadName, BadProcessor, BadTicks, Bool, Busy, Command, Event, Full, HasShortName, HasSizesOf, IsInOrder, IsWithinBounds, LineStyle, List, MakeFunded, MakeThread, NameTaken, NoCurrency, NoScript, None, NotRunning, Option, Program, Refusal, RemoveThread, ScriptTrap, Sizes, Slice, Some, State, Thread, Won, World, actor_event, all-pass, ap, are_threads_full, are_tickets_full, arith, command-grown, command_effect, command_refusal, command_step, cond, console_turn, currency_meant, entrants_in, event_effect, event_of_slice, event_refusal, false, free_threads, is_bad_amount, is_bad_processor, is_no_script, is_none, is_none_free, is_some, is_taken, is_thread_name, leb-false, length, length-append, length-set, loan_lines, loans_of, lot_diagnostics, lots_of, lots_text, ltb-false, mul-le-mul_right, nat_le, nat_lt, next_name, not, number_of, opening-order, opening_world, or_parts, other-sizes, placed, processor_event, processor_of, processor_turn, refl, resolved, slice_on, some-injective, step, step-order, step-sizes, subst, sym, system_turn, thread_meant, thread_on, true, unless_refused, unrefused, unwrap_or, used_there, won_in, won_lines, ℕ, [], ◌&&◌, ◌*◌, ◌+◌, ◌-◌, ◌==◌, ◌^◌, ◌||◌, ◌∙◌, ◌∷◌, ◌≡◌, ◌≤◌}
 use Rattle.lot_machine.specs.declared.trap.Trap.TheVariants as action
 use Rattle.lot_machine.specs.declared.event.Event.TheVariants as event
 use Rattle.lot_machine.specs.declared.reply.Reply.TheVariants as reply
@@ -177,11 +177,9 @@ processor-keeps limits w p e on_time sizes short =
 -- a command for a ticket that it names is one with as short a name
 resolved-short : (tickets : List ℕ) (name : Option ℕ) (c : Command) → HasShortName c → HasShortName (resolved tickets name c)
 resolved-short tickets None c short = short
-resolved-short tickets (Some name) (RemoveTicket ticket) short = tt
-resolved-short tickets (Some name) (Fund ticket target) short = tt
-resolved-short tickets (Some name) (Unfund ticket) short = tt
-resolved-short tickets (Some name) (SetTicket ticket amount) short = tt
-resolved-short tickets (Some name) c short = short
+resolved-short tickets (Some name) (MakeThread thread script) short = short
+resolved-short tickets (Some name) (MakeFunded amount currency thread script) short = short
+resolved-short tickets (Some name) c short = tt
 
 -- and one of the console
 console-keeps : (program : Program) (w : World) (commands : List Command) → All HasShortName commands → IsShort program.limits w → IsShort program.limits (console_turn program w commands).world

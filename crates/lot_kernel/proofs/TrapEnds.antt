@@ -1,5 +1,5 @@
 -- A whole trap: its effect, and then the disposition of its thread.
-use Rattle.lot_kernel.proofs.Common.{Action, After, Asleep, Bool, Call, Effect, Ends, Exit, Funding, GoesOn, IsApart, IsBorrower, IsInOrder, IsQueue, IsThere, Leaves, Lend, List, Lock, MakesStale, Mutex, NoPort, Nobody, Node, None, Option, Outcome, Queued, QueuedCall, Ready, Receive, Receiving, Record, Running, RunsAlone, Serve, Served, Sizes, Sleep, Snapshot, Some, State, Status, ToMutex, ToThread, TrapRefusal, Trapped, Unlock, Waiting, Yield, after_trap, all-pass, ap, arith, at_number, before_lock, change_record, cond, effect-apart, effect_of, ends_quantum, false, finish_trap, funding_of, holder_of, holders, is_none, lend_node, lend_of, length, length-map, length-set, makes-last, map, mutex_at, nat_le, port_at, refl, runs-alone, served_at, set_number, status_of, subst, sym, threads_of, trap_effect, trap_refusal, true, with_records, with_ticks, ℕ, [], ◌&&◌, ◌++◌, ◌+◌, ◌-◌, ◌<◌, ◌∙◌, ◌∷◌, ◌≡◌}
+use Rattle.lot_kernel.proofs.Common.{Action, After, Bool, Call, Effect, Ends, Exit, Funding, GoesOn, IsApart, IsBorrower, IsInOrder, IsQueue, IsThere, Leaves, Lend, List, Lock, MakesStale, Mutex, NoPort, Nobody, Node, None, Option, Outcome, Queued, QueuedCall, Ready, Receive, Receiving, Record, Running, RunsAlone, Serve, Served, Sizes, Snapshot, Some, State, Status, ToMutex, ToThread, TrapRefusal, Trapped, Unlock, Waiting, Yield, after_trap, all-pass, ap, arith, at_number, before_lock, change_record, cond, effect-apart, effect_of, ends_quantum, false, finish_trap, funding_of, holder_of, holders, is_none, lend_node, lend_of, length, length-map, length-set, makes-last, map, mutex_at, nat_le, port_at, refl, runs-alone, served_at, set_number, status_of, subst, sym, threads_of, trap_effect, trap_refusal, true, with_records, with_ticks, ℕ, [], ◌&&◌, ◌++◌, ◌+◌, ◌-◌, ◌<◌, ◌∙◌, ◌∷◌, ◌≡◌}
 use Rattle.lot_machine.specs.declared.trap.Trap.TheVariants.{Reply as ReplyTo}
 use Rattle.lot_machine.specs.declared.reply.Outcome.TheVariants as outcome
 use Rattle.lot_kernel.proofs.Leaving.{receivers-queue}
@@ -50,6 +50,9 @@ lends-nothing : (limits : Sizes) (now status : Status) → lend_of limits now �
 lends-nothing limits now status nobody e node to =
     let none : None ≡ Some node = ap lend_node (sym nobody ∙ ap (lend_of limits) (leaves-same now status e)) ∙ to in
     cc
+
+idle-there : (s : State) (now : Status) → lend_of s.limits now ≡ Nobody → LendsThere s (Leaves now)
+idle-there s now nobody status e node to = absurd (lends-nothing s.limits now status nobody e node to)
 
 -- or to a thread or a mutex that is there
 served-there : (limits : Sizes) (f : Funding) (records : List Record) (server : ℕ) → IsThere records server → f.lends ≡ map (λ r. lend_of limits r.status) records
@@ -140,15 +143,14 @@ module _ (s : State) (t p used : ℕ) (order : IsInOrder s) (runs : status_of s.
   lends-there action = by (trap_refusal s t action) refl
     where
       done : (a : Action) → trap_refusal s t a ≡ None → LendsThere (trap_effect s t a).state (trap_effect s t a).after
-      done Yield allowed = λ status e node to. absurd (lends-nothing s.limits Ready status refl e node to)
       done (Call port number) allowed = call-there port number (number-within s.ports port (all-pass ((is_none (at_number s.ports port), NoPort) ∷ []) allowed).0)
       done (Receive port) allowed = receive-there port
       done (ReplyTo number) allowed = λ status e. absurd (goes-nowhere status e)
       done (Serve port number) allowed = serve-there port number
       done (Lock m) allowed = lock-lends m allowed
       done (Unlock m d) allowed = unlock-there m d
-      done (Sleep n) allowed = λ status e node to. absurd (lends-nothing s.limits Asleep status refl e node to)
       done Exit allowed = λ status e. absurd (ends-nowhere status e)
+      done a allowed = idle-there s _ refl
 
       by : (o : Option TrapRefusal) → trap_refusal s t action ≡ o → LendsThere (effect_of s t action).state (effect_of s t action).after
       by None allowed = rw allowed (done action allowed)

@@ -11,41 +11,21 @@ mod same;
 mod threads;
 mod traps;
 
-use crate::{trapped, won};
+use crate::{command_in, trapped, won};
 use lot_kernel::{
     Action, Command, CurrencyNumber, CurrencyRef, CurrencyRow, Event, Kernel, Kind, Limits, Name,
-    Outcome, Refusal, Reply, Sizes, Status, Target, TargetRef, ThreadNumber, ThreadRef, ThreadRow,
+    Outcome, Refusal, Reply, Sizes, Status, Target, TargetRef, ThreadNumber, ThreadRow,
     TicketNumber, TicketRow, TrapRefusal,
 };
 use same::{check_same, check_same_at};
 use std::alloc::Global;
 use std::process::Abort;
 
-/// A command with its names as texts.
-#[derive(Clone, Copy)]
-enum Line<'a> {
-    Mktkt(u64, &'a str),
-    Rmtkt(u64),
-    Mkcur(&'a str),
-    Rmcur(&'a str),
-    Fund(u64, &'a str),
-    Unfund(u64),
-    Settkt(u64, u64),
-    Mkthr(&'a str, u32),
-    Rmthr(&'a str),
-    Kill(&'a str),
-    Fundx(u64, &'a str, &'a str, u32),
-    /// `fund`, `rmthr` and `kill` of the thread with this number.
-    FundThread(u64, u32),
-    RemoveThread(u32),
-    KillThread(u32),
-    List(Kind),
-}
-
 /// A step of a row: an event and the expected reply, or a number and the expected row or value.
 #[derive(Clone, Copy)]
 enum Step<'a> {
-    Gives(Line<'a>, Reply),
+    /// The line of a command, and its reply. A script is its number, and `#1` a thread's number.
+    Gives(&'a str, Reply),
     /// A draw on the processor with this number, its winner, and the number delivered to the winner.
     Wins(u32, u128, Winner, Option<u32>),
     /// A draw on the processor with this number that nobody wins.
@@ -92,62 +72,23 @@ fn name(rt: &impl Abort, text: &str) -> Name {
     Name::new(text).expect(rt, "name")
 }
 
-fn command(rt: &impl Abort, line: Line<'_>) -> Command {
-    match line {
-        Line::Mktkt(amount, text) => {
-            let currency = CurrencyRef::Named(name(rt, text));
-            Command::MakeTicket { amount, currency }
-        }
-        Line::Rmtkt(ticket) => Command::RemoveTicket { ticket },
-        Line::Mkcur(text) => Command::MakeCurrency {
-            name: name(rt, text),
-        },
-        Line::Rmcur(text) => Command::RemoveCurrency {
-            currency: CurrencyRef::Named(name(rt, text)),
-        },
-        Line::Fund(ticket, text) => {
-            let target = TargetRef::Named(name(rt, text));
-            Command::Fund { ticket, target }
-        }
-        Line::Unfund(ticket) => Command::Unfund { ticket },
-        Line::Settkt(ticket, amount) => Command::SetTicket { ticket, amount },
-        Line::Mkthr(text, script) => {
-            let name = name(rt, text);
-            Command::MakeThread { name, script }
-        }
-        Line::Rmthr(text) => Command::RemoveThread {
-            thread: ThreadRef::Named(name(rt, text)),
-        },
-        Line::Kill(text) => Command::Kill {
-            thread: ThreadRef::Named(name(rt, text)),
-        },
-        Line::Fundx(amount, issuer, text, script) => Command::MakeFunded {
-            amount,
-            currency: CurrencyRef::Named(name(rt, issuer)),
-            name: name(rt, text),
-            script,
-        },
-        Line::FundThread(ticket, number) => Command::Fund {
-            ticket,
-            target: TargetRef::Thread(number),
-        },
-        Line::RemoveThread(number) => Command::RemoveThread {
-            thread: ThreadRef::Numbered(number),
-        },
-        Line::KillThread(number) => Command::Kill {
-            thread: ThreadRef::Numbered(number),
-        },
-        Line::List(kind) => Command::List(kind),
-    }
+/// The command of a line.
+fn command(rt: &impl Abort, line: &str) -> Command {
+    command_in(line).expect(rt, "a command")
 }
 
 /// The kernel's reply to a command.
-fn answer(rt: &impl Abort, kernel: &mut Kernel, line: Line<'_>) -> Reply {
-    kernel.event(&Event::Command(command(rt, line)))
+fn made(kernel: &mut Kernel, command: Command) -> Reply {
+    kernel.event(&Event::Command(command))
+}
+
+/// The kernel's reply to the command of a line.
+fn answer(rt: &impl Abort, kernel: &mut Kernel, line: &str) -> Reply {
+    made(kernel, command(rt, line))
 }
 
 /// Makes a command, and compares the reply.
-fn check_answer(rt: &impl Abort, kernel: &mut Kernel, line: Line<'_>, reply: Reply) {
+fn check_answer(rt: &impl Abort, kernel: &mut Kernel, line: &str, reply: Reply) {
     check_event(rt, kernel, Event::Command(command(rt, line)), reply)
 }
 
@@ -348,7 +289,7 @@ fn numbered(rt: &impl Abort, alloc: Global, letter: char, number: u32) -> String
 fn make_threads(rt: &impl Abort, kernel: &mut Kernel, alloc: Global, count: u32) {
     for number in 1..=count {
         let text = numbered(rt, alloc, 't', number);
-        answer(rt, kernel, Line::Fundx(1, "base", text.as_str(), 1));
+        made(kernel, make_funded(rt, 1, "base", text.as_str()));
     }
 }
 
@@ -412,17 +353,45 @@ fn winning((thread, number, total): Winner, delivered: Option<u32>) -> Reply {
     won(thread, number, total, delivered)
 }
 
+/// A thread with this name.
+fn make_thread(rt: &impl Abort, text: &str) -> Command {
+    let name = name(rt, text);
+    Command::MakeThread { name, script: 1 }
+}
+
+/// A ticket of this currency.
+fn make_ticket(rt: &impl Abort, amount: u64, issuer: &str) -> Command {
+    let currency = CurrencyRef::Named(name(rt, issuer));
+    Command::MakeTicket { amount, currency }
+}
+
+/// The ticket funds the target with this name.
+fn fund_by(rt: &impl Abort, ticket: u64, text: &str) -> Command {
+    let target = TargetRef::Named(name(rt, text));
+    Command::Fund { ticket, target }
+}
+
+/// A thread with this name, and a ticket of the currency that funds it.
+fn make_funded(rt: &impl Abort, amount: u64, issuer: &str, text: &str) -> Command {
+    Command::MakeFunded {
+        amount,
+        currency: CurrencyRef::Named(name(rt, issuer)),
+        name: name(rt, text),
+        script: 1,
+    }
+}
+
 /// Makes a thread of this name with a new ticket of base, which has this number.
 fn fund_thread(rt: &impl Abort, kernel: &mut Kernel, number: u64, amount: u64, name: &str) {
-    answer(rt, kernel, Line::Mkthr(name, 1));
-    answer(rt, kernel, Line::Mktkt(amount, "base"));
-    answer(rt, kernel, Line::Fund(number, name));
+    made(kernel, make_thread(rt, name));
+    made(kernel, make_ticket(rt, amount, "base"));
+    made(kernel, fund_by(rt, number, name));
 }
 
 /// Makes threads of these names, funded with this much of the currency, in order.
 fn fund_of(rt: &impl Abort, kernel: &mut Kernel, currency: &str, threads: &[(u64, &str)]) {
     for (amount, name) in threads {
-        answer(rt, kernel, Line::Fundx(*amount, currency, name, 1));
+        made(kernel, make_funded(rt, *amount, currency, name));
     }
 }
 
@@ -497,10 +466,10 @@ fn list_lottery(rt: HostRuntime) {
 }
 
 const ONE_FUNDED: &[Step<'static>] = &[
-    Step::Gives(Line::Mkthr("a", 1), Reply::Thread(1)),
-    Step::Gives(Line::Mktkt(10, "base"), Reply::Ticket(1)),
-    Step::Gives(Line::Fund(1, "a"), Reply::Done),
-    Step::Gives(Line::Mktkt(10, "base"), Reply::Ticket(2)),
+    Step::Gives("mkthr a 1", Reply::Thread(1)),
+    Step::Gives("mktkt 10 base", Reply::Ticket(1)),
+    Step::Gives("fund 1 a", Reply::Done),
+    Step::Gives("mktkt 10 base", Reply::Ticket(2)),
 ];
 
 /// Events while no thread runs: the processor is checked first, then whether a thread runs there, then the ticks.
@@ -563,7 +532,7 @@ static OUT_OF_PLACE_REPLIES: [Reply; 10] = [
 ];
 
 const DEAD_TARGET: &[Step<'static>] = &[Step::Gives(
-    Line::Fund(2, "a"),
+    "fund 2 a",
     Reply::Refused(Refusal::DeadThread),
 )];
 
@@ -583,20 +552,17 @@ fn events_out_of_place(rt: HostRuntime) {
 
 /// Gives one thread as many tickets as possible, of the largest amount.
 fn fund_fully(rt: &impl Abort, kernel: &mut Kernel) {
-    answer(rt, kernel, Line::Mkthr("a", 1));
+    answer(rt, kernel, "mkthr a 1");
     for ticket in 1..=65535 {
-        answer(rt, kernel, Line::Mktkt(4294967295, "base"));
-        answer(rt, kernel, Line::Fund(ticket, "a"));
+        answer(rt, kernel, "mktkt 4294967295 base");
+        made(kernel, fund_by(rt, ticket, "a"));
     }
 }
 
 const NO_MORE_TICKETS: &[Step<'static>] = &[
-    Step::Gives(Line::Mktkt(1, "base"), Reply::Refused(Refusal::Full)),
-    Step::Gives(Line::Mktkt(0, "base"), Reply::Refused(Refusal::BadAmount)),
-    Step::Gives(
-        Line::Mktkt(4294967296, "base"),
-        Reply::Refused(Refusal::BadAmount),
-    ),
+    Step::Gives("mktkt 1 base", Reply::Refused(Refusal::Full)),
+    Step::Gives("mktkt 0 base", Reply::Refused(Refusal::BadAmount)),
+    Step::Gives("mktkt 4294967296 base", Reply::Refused(Refusal::BadAmount)),
 ];
 
 /// As many tickets as possible, of the largest amount.
@@ -637,45 +603,45 @@ fn largest_compensated_total(rt: HostRuntime) {
 }
 
 const PAPERS_GRAPH: &[Step<'static>] = &[
-    Step::Gives(Line::Mkcur("alice"), Reply::Currency(1)),
-    Step::Gives(Line::Mkcur("bob"), Reply::Currency(2)),
-    Step::Gives(Line::Mkcur("task1"), Reply::Currency(3)),
-    Step::Gives(Line::Mkcur("task2"), Reply::Currency(4)),
-    Step::Gives(Line::Mkcur("task3"), Reply::Currency(5)),
-    Step::Gives(Line::Mktkt(1000, "base"), Reply::Ticket(1)),
-    Step::Gives(Line::Fund(1, "alice"), Reply::Done),
-    Step::Gives(Line::Mktkt(2000, "base"), Reply::Ticket(2)),
-    Step::Gives(Line::Fund(2, "bob"), Reply::Done),
-    Step::Gives(Line::Mktkt(100, "alice"), Reply::Ticket(3)),
-    Step::Gives(Line::Fund(3, "task1"), Reply::Done),
-    Step::Gives(Line::Mktkt(200, "alice"), Reply::Ticket(4)),
-    Step::Gives(Line::Fund(4, "task2"), Reply::Done),
-    Step::Gives(Line::Mktkt(100, "bob"), Reply::Ticket(5)),
-    Step::Gives(Line::Fund(5, "task3"), Reply::Done),
+    Step::Gives("mkcur alice", Reply::Currency(1)),
+    Step::Gives("mkcur bob", Reply::Currency(2)),
+    Step::Gives("mkcur task1", Reply::Currency(3)),
+    Step::Gives("mkcur task2", Reply::Currency(4)),
+    Step::Gives("mkcur task3", Reply::Currency(5)),
+    Step::Gives("mktkt 1000 base", Reply::Ticket(1)),
+    Step::Gives("fund 1 alice", Reply::Done),
+    Step::Gives("mktkt 2000 base", Reply::Ticket(2)),
+    Step::Gives("fund 2 bob", Reply::Done),
+    Step::Gives("mktkt 100 alice", Reply::Ticket(3)),
+    Step::Gives("fund 3 task1", Reply::Done),
+    Step::Gives("mktkt 200 alice", Reply::Ticket(4)),
+    Step::Gives("fund 4 task2", Reply::Done),
+    Step::Gives("mktkt 100 bob", Reply::Ticket(5)),
+    Step::Gives("fund 5 task3", Reply::Done),
     Step::Gives(
-        Line::Fundx(200, "task2", "thread2", 1),
+        "fundx 200 task2 thread2 1",
         Reply::Funded {
             ticket: 6,
             thread: 1,
         },
     ),
     Step::Gives(
-        Line::Fundx(300, "task2", "thread3", 1),
+        "fundx 300 task2 thread3 1",
         Reply::Funded {
             ticket: 7,
             thread: 2,
         },
     ),
     Step::Gives(
-        Line::Fundx(100, "task3", "thread4", 1),
+        "fundx 100 task3 thread4 1",
         Reply::Funded {
             ticket: 8,
             thread: 3,
         },
     ),
-    Step::Gives(Line::List(Kind::Currencies), Reply::List(Kind::Currencies)),
-    Step::Gives(Line::List(Kind::Tickets), Reply::List(Kind::Tickets)),
-    Step::Gives(Line::List(Kind::Threads), Reply::List(Kind::Threads)),
+    Step::Gives("lscur", Reply::List(Kind::Currencies)),
+    Step::Gives("lstkt", Reply::List(Kind::Tickets)),
+    Step::Gives("lsthr", Reply::List(Kind::Threads)),
     Step::Currency((0, "base", 0, 2, 3000, 3000)),
     Step::Currency((1, "alice", 1, 2, 200, 1000)),
     Step::Currency((2, "bob", 1, 1, 100, 2000)),
@@ -701,12 +667,12 @@ fn papers_graph(rt: HostRuntime) {
 }
 
 const ROWS_OF_NOTHING: &[Step<'static>] = &[
-    Step::Gives(Line::Mkcur("g"), Reply::Currency(1)),
-    Step::Gives(Line::Mktkt(1, "base"), Reply::Ticket(1)),
-    Step::Gives(Line::Mktkt(1, "base"), Reply::Ticket(2)),
-    Step::Gives(Line::Mkthr("a", 1), Reply::Thread(1)),
-    Step::Gives(Line::Rmtkt(1), Reply::Done),
-    Step::Gives(Line::Rmcur("g"), Reply::Done),
+    Step::Gives("mkcur g", Reply::Currency(1)),
+    Step::Gives("mktkt 1 base", Reply::Ticket(1)),
+    Step::Gives("mktkt 1 base", Reply::Ticket(2)),
+    Step::Gives("mkthr a 1", Reply::Thread(1)),
+    Step::Gives("rmtkt 1", Reply::Done),
+    Step::Gives("rmcur g", Reply::Done),
     Step::NoTicket(0),
     Step::NoTicket(1),
     Step::NoTicket(3),
@@ -726,13 +692,6 @@ fn rows_of_nothing(rt: HostRuntime) {
     play(&rt, rt.alloc(), ROWS_OF_NOTHING)
 }
 
-/// Makes the commands in turn.
-fn answer_all(rt: &impl Abort, kernel: &mut Kernel, lines: &[Line<'_>]) {
-    for line in lines {
-        answer(rt, kernel, *line);
-    }
-}
-
 /// A base ticket funds currency `g`, whose tickets of these amounts fund a thread each.
 fn shares(
     rt: &impl Abort,
@@ -742,12 +701,9 @@ fn shares(
     amounts: &[(u64, &str)],
 ) -> Kernel {
     let mut kernel = largest(rt, alloc, unit);
-    let lines = [
-        Line::Mkcur("g"),
-        Line::Mktkt(whole, "base"),
-        Line::Fund(1, "g"),
-    ];
-    answer_all(rt, &mut kernel, &lines);
+    answer(rt, &mut kernel, "mkcur g");
+    made(&mut kernel, make_ticket(rt, whole, "base"));
+    answer(rt, &mut kernel, "fund 1 g");
     fund_of(rt, &mut kernel, "g", amounts);
     kernel
 }
@@ -831,7 +787,7 @@ const NOTHING: &[Step<'static>] = &[
     Step::Idles(1, 1),
     Step::Idles(1, u128::MAX),
     Step::Gives(
-        Line::Fundx(1, "base", "c", 1),
+        "fundx 1 base c 1",
         Reply::Funded {
             ticket: 4,
             thread: 3,
@@ -847,21 +803,21 @@ fn rounded_to_nothing(rt: HostRuntime) {
 }
 
 const TWO_LEVELS: &[Step<'static>] = &[
-    Step::Gives(Line::Mkcur("g"), Reply::Currency(1)),
-    Step::Gives(Line::Mkcur("h"), Reply::Currency(2)),
-    Step::Gives(Line::Mktkt(100, "base"), Reply::Ticket(1)),
-    Step::Gives(Line::Fund(1, "g"), Reply::Done),
-    Step::Gives(Line::Mktkt(1, "g"), Reply::Ticket(2)),
-    Step::Gives(Line::Fund(2, "h"), Reply::Done),
+    Step::Gives("mkcur g", Reply::Currency(1)),
+    Step::Gives("mkcur h", Reply::Currency(2)),
+    Step::Gives("mktkt 100 base", Reply::Ticket(1)),
+    Step::Gives("fund 1 g", Reply::Done),
+    Step::Gives("mktkt 1 g", Reply::Ticket(2)),
+    Step::Gives("fund 2 h", Reply::Done),
     Step::Gives(
-        Line::Fundx(1, "h", "a", 1),
+        "fundx 1 h a 1",
         Reply::Funded {
             ticket: 3,
             thread: 1,
         },
     ),
     Step::Gives(
-        Line::Fundx(1, "g", "b", 1),
+        "fundx 1 g b 1",
         Reply::Funded {
             ticket: 4,
             thread: 2,
@@ -873,7 +829,7 @@ const TWO_LEVELS: &[Step<'static>] = &[
 
 /// The state after the lower thread has exited.
 const ONE_LEVEL: &[Step<'static>] = &[
-    Step::Gives(Line::Fund(4, "a"), Reply::Refused(Refusal::DeadThread)),
+    Step::Gives("fund 4 a", Reply::Refused(Refusal::DeadThread)),
     Step::Wins(1, 99, (2, 99, 100), None),
     Step::Currency((0, "base", 0, 1, 100, 100)),
     Step::Currency((1, "g", 1, 2, 1, 100)),
@@ -914,22 +870,22 @@ fn two_levels(rt: HostRuntime) {
 }
 
 const CYCLES: &[Step<'static>] = &[
-    Step::Gives(Line::Mkcur("a"), Reply::Currency(1)),
-    Step::Gives(Line::Mkcur("b"), Reply::Currency(2)),
-    Step::Gives(Line::Mkcur("c"), Reply::Currency(3)),
-    Step::Gives(Line::Mkcur("d"), Reply::Currency(4)),
-    Step::Gives(Line::Mktkt(1, "a"), Reply::Ticket(1)),
-    Step::Gives(Line::Fund(1, "a"), Reply::Refused(Refusal::Cycle)),
-    Step::Gives(Line::Fund(1, "b"), Reply::Done),
-    Step::Gives(Line::Mktkt(1, "b"), Reply::Ticket(2)),
-    Step::Gives(Line::Fund(2, "c"), Reply::Done),
-    Step::Gives(Line::Mktkt(1, "c"), Reply::Ticket(3)),
-    Step::Gives(Line::Fund(3, "a"), Reply::Refused(Refusal::Cycle)),
-    Step::Gives(Line::Mktkt(1, "a"), Reply::Ticket(4)),
-    Step::Gives(Line::Fund(4, "c"), Reply::Done),
-    Step::Gives(Line::Fund(3, "d"), Reply::Done),
-    Step::Gives(Line::Mktkt(1, "b"), Reply::Ticket(5)),
-    Step::Gives(Line::Fund(5, "d"), Reply::Done),
+    Step::Gives("mkcur a", Reply::Currency(1)),
+    Step::Gives("mkcur b", Reply::Currency(2)),
+    Step::Gives("mkcur c", Reply::Currency(3)),
+    Step::Gives("mkcur d", Reply::Currency(4)),
+    Step::Gives("mktkt 1 a", Reply::Ticket(1)),
+    Step::Gives("fund 1 a", Reply::Refused(Refusal::Cycle)),
+    Step::Gives("fund 1 b", Reply::Done),
+    Step::Gives("mktkt 1 b", Reply::Ticket(2)),
+    Step::Gives("fund 2 c", Reply::Done),
+    Step::Gives("mktkt 1 c", Reply::Ticket(3)),
+    Step::Gives("fund 3 a", Reply::Refused(Refusal::Cycle)),
+    Step::Gives("mktkt 1 a", Reply::Ticket(4)),
+    Step::Gives("fund 4 c", Reply::Done),
+    Step::Gives("fund 3 d", Reply::Done),
+    Step::Gives("mktkt 1 b", Reply::Ticket(5)),
+    Step::Gives("fund 5 d", Reply::Done),
 ];
 
 #[test]
@@ -940,19 +896,20 @@ fn cycles(rt: HostRuntime) {
 /// Makes this many currencies: `c1`, `c2` and so on.
 fn make_currencies(rt: &impl Abort, kernel: &mut Kernel, alloc: Global, count: u32) {
     for number in 1..=count {
-        let made = numbered(rt, alloc, 'c', number);
-        answer(rt, kernel, Line::Mkcur(&made));
+        let made_name = numbered(rt, alloc, 'c', number);
+        let name = name(rt, &made_name);
+        made(kernel, Command::MakeCurrency { name });
     }
 }
 
 /// A new ticket funds the target.
 fn fund_anew(rt: &impl Abort, kernel: &mut Kernel, amount: u64, issuer: &str, target: &str) {
-    let made = match answer(rt, kernel, Line::Mktkt(amount, issuer)) {
+    let made_ticket = match made(kernel, make_ticket(rt, amount, issuer)) {
         Reply::Ticket(ticket) => Some(ticket),
         _ => None,
     };
-    let ticket = made.expect(rt, "ticket");
-    answer(rt, kernel, Line::Fund(u64::from(ticket), target));
+    let ticket = made_ticket.expect(rt, "ticket");
+    made(kernel, fund_by(rt, u64::from(ticket), target));
 }
 
 /// This many tickets of this currency fund the next.
@@ -974,7 +931,7 @@ fn link_all(rt: &impl Abort, kernel: &mut Kernel, alloc: Global, count: u32, tic
 /// Makes thread `a`, with a ticket of this currency.
 fn fund_last(rt: &impl Abort, kernel: &mut Kernel, alloc: Global, number: u32) {
     let last = numbered(rt, alloc, 'c', number);
-    answer(rt, kernel, Line::Fundx(1, &last, "a", 1));
+    made(kernel, make_funded(rt, 1, &last, "a"));
 }
 
 /// Currencies `c1`, `c2` and so on: a base ticket funds the first, this many tickets of each fund the next, and a
@@ -994,8 +951,8 @@ fn chain(
 }
 
 const DIAMONDS: &[Step<'static>] = &[
-    Step::Gives(Line::Mktkt(1, "c64"), Reply::Ticket(129)),
-    Step::Gives(Line::Fund(129, "c1"), Reply::Refused(Refusal::Cycle)),
+    Step::Gives("mktkt 1 c64", Reply::Ticket(129)),
+    Step::Gives("fund 129 c1", Reply::Refused(Refusal::Cycle)),
     Step::Currency((1, "c1", 1, 2, 2, 7)),
     Step::Currency((64, "c64", 2, 2, 1, 6)),
     Step::Wins(1, 5, (1, 5, 6), None),
@@ -1010,19 +967,19 @@ fn chain_of_diamonds(rt: HostRuntime) {
 }
 
 const REMOVAL: &[Step<'static>] = &[
-    Step::Gives(Line::Mkcur("g"), Reply::Currency(1)),
-    Step::Gives(Line::Mktkt(5, "g"), Reply::Ticket(1)),
-    Step::Gives(Line::Rmcur("g"), Reply::Refused(Refusal::InUse)),
-    Step::Gives(Line::Mkthr("a", 1), Reply::Thread(1)),
-    Step::Gives(Line::Fund(1, "a"), Reply::Done),
-    Step::Gives(Line::Rmtkt(1), Reply::Refused(Refusal::Funding)),
-    Step::Gives(Line::Unfund(1), Reply::Done),
-    Step::Gives(Line::Rmtkt(1), Reply::Done),
-    Step::Gives(Line::Rmcur("g"), Reply::Done),
-    Step::Gives(Line::Unfund(1), Reply::Refused(Refusal::NoTicket)),
-    Step::Gives(Line::Mktkt(5, "base"), Reply::Ticket(2)),
-    Step::Gives(Line::Mkcur("g"), Reply::Currency(2)),
-    Step::Gives(Line::Rmcur("base"), Reply::Refused(Refusal::BaseFixed)),
+    Step::Gives("mkcur g", Reply::Currency(1)),
+    Step::Gives("mktkt 5 g", Reply::Ticket(1)),
+    Step::Gives("rmcur g", Reply::Refused(Refusal::InUse)),
+    Step::Gives("mkthr a 1", Reply::Thread(1)),
+    Step::Gives("fund 1 a", Reply::Done),
+    Step::Gives("rmtkt 1", Reply::Refused(Refusal::Funding)),
+    Step::Gives("unfund 1", Reply::Done),
+    Step::Gives("rmtkt 1", Reply::Done),
+    Step::Gives("rmcur g", Reply::Done),
+    Step::Gives("unfund 1", Reply::Refused(Refusal::NoTicket)),
+    Step::Gives("mktkt 5 base", Reply::Ticket(2)),
+    Step::Gives("mkcur g", Reply::Currency(2)),
+    Step::Gives("rmcur base", Reply::Refused(Refusal::BaseFixed)),
 ];
 
 #[test]
@@ -1036,36 +993,30 @@ const FIRST_FUNDED: Reply = Reply::Funded {
 };
 
 const TWO_TICKETS: &[Step<'static>] = &[
-    Step::Gives(Line::Mktkt(1, "base"), Reply::Ticket(1)),
-    Step::Gives(Line::Rmtkt(1), Reply::Done),
-    Step::Gives(Line::Mktkt(1, "base"), Reply::Ticket(2)),
-    Step::Gives(Line::Mktkt(1, "base"), Reply::Refused(Refusal::Full)),
+    Step::Gives("mktkt 1 base", Reply::Ticket(1)),
+    Step::Gives("rmtkt 1", Reply::Done),
+    Step::Gives("mktkt 1 base", Reply::Ticket(2)),
+    Step::Gives("mktkt 1 base", Reply::Refused(Refusal::Full)),
 ];
 
 const ONE_TICKET: &[Step<'static>] = &[
-    Step::Gives(Line::Fundx(1, "base", "a", 1), FIRST_FUNDED),
-    Step::Gives(
-        Line::Fundx(1, "base", "b", 1),
-        Reply::Refused(Refusal::Full),
-    ),
-    Step::Gives(Line::Mkthr("b", 1), Reply::Thread(2)),
-    Step::Gives(Line::Mkthr("c", 1), Reply::Refused(Refusal::Full)),
+    Step::Gives("fundx 1 base a 1", FIRST_FUNDED),
+    Step::Gives("fundx 1 base b 1", Reply::Refused(Refusal::Full)),
+    Step::Gives("mkthr b 1", Reply::Thread(2)),
+    Step::Gives("mkthr c 1", Reply::Refused(Refusal::Full)),
 ];
 
 const ONE_THREAD: &[Step<'static>] = &[
-    Step::Gives(Line::Fundx(1, "base", "a", 1), FIRST_FUNDED),
-    Step::Gives(
-        Line::Fundx(1, "base", "b", 1),
-        Reply::Refused(Refusal::Full),
-    ),
-    Step::Gives(Line::Mktkt(1, "base"), Reply::Ticket(2)),
+    Step::Gives("fundx 1 base a 1", FIRST_FUNDED),
+    Step::Gives("fundx 1 base b 1", Reply::Refused(Refusal::Full)),
+    Step::Gives("mktkt 1 base", Reply::Ticket(2)),
 ];
 
 const TWO_CURRENCIES: &[Step<'static>] = &[
-    Step::Gives(Line::Mkcur("a"), Reply::Currency(1)),
-    Step::Gives(Line::Rmcur("a"), Reply::Done),
-    Step::Gives(Line::Mkcur("b"), Reply::Currency(2)),
-    Step::Gives(Line::Mkcur("c"), Reply::Refused(Refusal::Full)),
+    Step::Gives("mkcur a", Reply::Currency(1)),
+    Step::Gives("rmcur a", Reply::Done),
+    Step::Gives("mkcur b", Reply::Currency(2)),
+    Step::Gives("mkcur c", Reply::Refused(Refusal::Full)),
 ];
 
 /// Takes the steps in a new kernel of this many tickets, currencies and threads.
@@ -1089,65 +1040,47 @@ fn full_tables(rt: HostRuntime) {
 }
 
 const REFUSED: &[Step<'static>] = &[
-    Step::Gives(Line::Mktkt(0, "no"), Reply::Refused(Refusal::BadAmount)),
-    Step::Gives(
-        Line::Mktkt(4294967296, "no"),
-        Reply::Refused(Refusal::BadAmount),
-    ),
-    Step::Gives(Line::Mktkt(1, "no"), Reply::Refused(Refusal::NoCurrency)),
-    Step::Gives(Line::Rmtkt(1), Reply::Refused(Refusal::NoTicket)),
-    Step::Gives(Line::Unfund(1), Reply::Refused(Refusal::NoTicket)),
-    Step::Gives(Line::Mkcur("Bad"), Reply::Refused(Refusal::BadName)),
-    Step::Gives(Line::Mkcur("base"), Reply::Refused(Refusal::NameTaken)),
-    Step::Gives(Line::Mkcur("g"), Reply::Currency(1)),
-    Step::Gives(Line::Mkcur("g"), Reply::Refused(Refusal::NameTaken)),
-    Step::Gives(Line::Mkcur("h"), Reply::Refused(Refusal::Full)),
-    Step::Gives(Line::Rmcur("no"), Reply::Refused(Refusal::NoCurrency)),
-    Step::Gives(Line::Rmcur("base"), Reply::Refused(Refusal::BaseFixed)),
-    Step::Gives(Line::Mktkt(4294967295, "g"), Reply::Ticket(1)),
-    Step::Gives(Line::Rmcur("g"), Reply::Refused(Refusal::InUse)),
-    Step::Gives(Line::Mkthr("A", 0), Reply::Refused(Refusal::BadName)),
-    Step::Gives(Line::Mkthr("g", 0), Reply::Refused(Refusal::NameTaken)),
-    Step::Gives(Line::Mkthr("a", 0), Reply::Refused(Refusal::NoScript)),
-    Step::Gives(Line::Mkthr("a", 2), Reply::Refused(Refusal::NoScript)),
-    Step::Gives(Line::Mkthr("a", 1), Reply::Thread(1)),
-    Step::Gives(Line::Mkthr("a", 1), Reply::Refused(Refusal::NameTaken)),
-    Step::Gives(Line::Mkthr("b", 1), Reply::Refused(Refusal::Full)),
-    Step::Gives(Line::Fund(9, "no"), Reply::Refused(Refusal::NoTicket)),
-    Step::Gives(Line::Fund(1, "no"), Reply::Refused(Refusal::NoTarget)),
-    Step::Gives(Line::Fund(1, "base"), Reply::Refused(Refusal::BaseFixed)),
-    Step::Gives(Line::Fund(1, "g"), Reply::Refused(Refusal::Cycle)),
-    Step::Gives(Line::Unfund(1), Reply::Refused(Refusal::NotFunding)),
-    Step::Gives(Line::Fund(1, "a"), Reply::Done),
-    Step::Gives(Line::Fund(1, "g"), Reply::Refused(Refusal::Funding)),
-    Step::Gives(Line::Rmtkt(1), Reply::Refused(Refusal::Funding)),
-    Step::Gives(
-        Line::Fundx(0, "no", "Bad", 0),
-        Reply::Refused(Refusal::BadAmount),
-    ),
-    Step::Gives(
-        Line::Fundx(1, "no", "Bad", 0),
-        Reply::Refused(Refusal::NoCurrency),
-    ),
-    Step::Gives(
-        Line::Fundx(1, "g", "Bad", 0),
-        Reply::Refused(Refusal::BadName),
-    ),
-    Step::Gives(
-        Line::Fundx(1, "g", "a", 0),
-        Reply::Refused(Refusal::NameTaken),
-    ),
-    Step::Gives(
-        Line::Fundx(1, "g", "b", 0),
-        Reply::Refused(Refusal::NoScript),
-    ),
-    Step::Gives(Line::Fundx(1, "g", "b", 1), Reply::Refused(Refusal::Full)),
-    Step::Gives(Line::Mktkt(1, "base"), Reply::Ticket(2)),
-    Step::Gives(Line::Mktkt(1, "base"), Reply::Refused(Refusal::Full)),
-    Step::Gives(Line::Fund(2, "g"), Reply::Done),
-    Step::Gives(Line::Unfund(1), Reply::Done),
-    Step::Gives(Line::Rmtkt(1), Reply::Done),
-    Step::Gives(Line::Rmcur("g"), Reply::Refused(Refusal::InUse)),
+    Step::Gives("mktkt 0 no", Reply::Refused(Refusal::BadAmount)),
+    Step::Gives("mktkt 4294967296 no", Reply::Refused(Refusal::BadAmount)),
+    Step::Gives("mktkt 1 no", Reply::Refused(Refusal::NoCurrency)),
+    Step::Gives("rmtkt 1", Reply::Refused(Refusal::NoTicket)),
+    Step::Gives("unfund 1", Reply::Refused(Refusal::NoTicket)),
+    Step::Gives("mkcur Bad", Reply::Refused(Refusal::BadName)),
+    Step::Gives("mkcur base", Reply::Refused(Refusal::NameTaken)),
+    Step::Gives("mkcur g", Reply::Currency(1)),
+    Step::Gives("mkcur g", Reply::Refused(Refusal::NameTaken)),
+    Step::Gives("mkcur h", Reply::Refused(Refusal::Full)),
+    Step::Gives("rmcur no", Reply::Refused(Refusal::NoCurrency)),
+    Step::Gives("rmcur base", Reply::Refused(Refusal::BaseFixed)),
+    Step::Gives("mktkt 4294967295 g", Reply::Ticket(1)),
+    Step::Gives("rmcur g", Reply::Refused(Refusal::InUse)),
+    Step::Gives("mkthr A 0", Reply::Refused(Refusal::BadName)),
+    Step::Gives("mkthr g 0", Reply::Refused(Refusal::NameTaken)),
+    Step::Gives("mkthr a 0", Reply::Refused(Refusal::NoScript)),
+    Step::Gives("mkthr a 2", Reply::Refused(Refusal::NoScript)),
+    Step::Gives("mkthr a 1", Reply::Thread(1)),
+    Step::Gives("mkthr a 1", Reply::Refused(Refusal::NameTaken)),
+    Step::Gives("mkthr b 1", Reply::Refused(Refusal::Full)),
+    Step::Gives("fund 9 no", Reply::Refused(Refusal::NoTicket)),
+    Step::Gives("fund 1 no", Reply::Refused(Refusal::NoTarget)),
+    Step::Gives("fund 1 base", Reply::Refused(Refusal::BaseFixed)),
+    Step::Gives("fund 1 g", Reply::Refused(Refusal::Cycle)),
+    Step::Gives("unfund 1", Reply::Refused(Refusal::NotFunding)),
+    Step::Gives("fund 1 a", Reply::Done),
+    Step::Gives("fund 1 g", Reply::Refused(Refusal::Funding)),
+    Step::Gives("rmtkt 1", Reply::Refused(Refusal::Funding)),
+    Step::Gives("fundx 0 no Bad 0", Reply::Refused(Refusal::BadAmount)),
+    Step::Gives("fundx 1 no Bad 0", Reply::Refused(Refusal::NoCurrency)),
+    Step::Gives("fundx 1 g Bad 0", Reply::Refused(Refusal::BadName)),
+    Step::Gives("fundx 1 g a 0", Reply::Refused(Refusal::NameTaken)),
+    Step::Gives("fundx 1 g b 0", Reply::Refused(Refusal::NoScript)),
+    Step::Gives("fundx 1 g b 1", Reply::Refused(Refusal::Full)),
+    Step::Gives("mktkt 1 base", Reply::Ticket(2)),
+    Step::Gives("mktkt 1 base", Reply::Refused(Refusal::Full)),
+    Step::Gives("fund 2 g", Reply::Done),
+    Step::Gives("unfund 1", Reply::Done),
+    Step::Gives("rmtkt 1", Reply::Done),
+    Step::Gives("rmcur g", Reply::Refused(Refusal::InUse)),
 ];
 
 /// In each line the reply names the first check that fails, even if later ones would fail too.

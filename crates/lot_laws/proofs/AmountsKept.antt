@@ -1,11 +1,10 @@
 -- Only `settkt` of a ticket gives it another amount; and each run leaves the values of nodes that it doesn't affect.
-use Rattle.lot_laws.proofs.Common.{Affects, All, All-head, All-tail, BadAmount, BaseFixed, Bool, Command, Console, Currency, Cycle, DeadThread, Done, Event, Fund, HasEquation, IsInOrder, IsThere, KeepsAmount, Kill, List, MakeCurrency, MakeFunded, MakeThread, MakeTicket, NoTarget, NoTicket, Node, None, NotFunding, Option, Record, Refusal, RemoveCurrency, RemoveThread, RemoveTicket, RemovesTicket, SetTicket, SetsAmountOf, Sizes, Some, State, Step, Target, Thread, Ticket, Unfund, all-pass, ap, arith, at_number, by_event, cases_eq, command_effect, command_refusal, command_step, cond, contains-at, currency_or_base, false, flatten-some, free_tickets, funding_of, inl, inr, is_bad_amount, is_currency, is_cycle, is_dead_thread, is_funding, is_none, lend_of, length, length-map, live_of, next_thread, node_value, not, number-push, number-set, number-set_same, number-stays, number-there, option_any, option_flatten, option_map, order-sound, other-tickets, place_of, placed, refl, reissued, retargeted, run-order, set_number, slice_get, some-injective, some-of, state_after, step, step-grown, step-limits, step-order, subst, suc, sym, target_meant, ticket_at, ticket_in, true, unless_refused, unrefused, unwrap_or, with_amount, with_new_ticket, with_target, without_ticket, worth_in, zero, ℕ, [], ◌++◌, ◌-◌, ◌∙◌, ◌∷◌, ◌≡◌, ◌≢◌, ◌≤◌, ◌⊎◌}
-use Rattle.lot_machine.specs.declared.ticket.Target.TheVariants as target
-use Rattle.lot_machine.specs.declared.command.Command.TheVariants.{List as Listing}
+use Rattle.lot_laws.proofs.Common.{Affects, All, All-head, All-tail, BadAmount, Bool, Command, Console, Currency, Done, Event, HasEquation, IsInOrder, IsThere, KeepsAmount, Kill, List, NoTicket, Node, None, Option, Record, Refusal, RemoveTicket, RemovesTicket, SetTicket, SetsAmountOf, Sizes, Some, State, Step, Target, Thread, Ticket, all-pass, ap, arith, at_number, by_event, cases_eq, command_effect, command_refusal, cond, contains-at, false, flatten-some, free_tickets, funding_of, inl, inr, is_bad_amount, is_none, lend_of, length, length-map, live_of, node_value, number-push, number-set, number-set_same, number-stays, number-there, option_flatten, option_map, order-sound, place_of, placed, refl, reissued, run-order, set_number, slice_get, some-injective, state_after, step, step-grown, step-limits, step-order, subst, suc, sym, ticket_at, ticket_in, true, unless_refused, with_amount, with_new_ticket, without_ticket, worth_in, ℕ, [], ◌++◌, ◌-◌, ◌∙◌, ◌∷◌, ◌≡◌, ◌≢◌, ◌≤◌, ◌⊎◌}
 use Rattle.lot_machine.specs.declared.event.Event.TheVariants as event
 use Rattle.lot_machine.specs.declared.funding.Node.TheVariants.{Mutex}
 use Rattle.lot_laws.proofs.Insulated.{insulated}
-use Rattle.lot_machine.specs.declared.refusal.Refusal.TheVariants.{Funding as IsFunding}
+use Rattle.lot_machine.specs.Change.{DropTicket, NewTicket, PutTicket}
+use Rattle.lot_machine.proofs.StepChanges.{By, HasGaps, IsAmount, Keeps, Replaces, by_command, change-gaps, kept, step-leads}
 
 -- ---- a ticket's place
 
@@ -57,59 +56,64 @@ one-changed n xs m x was = record { grows = λ none. fewer none (number-set xs m
 removed : (n : ℕ) (xs : List (Option Ticket)) (m : ℕ) → ComesOf n xs (without_ticket xs m)
 removed n xs m = one-changed n xs m None (λ u at is. cc)
 
-aimed : (n : ℕ) (xs : List (Option Ticket)) (m : ℕ) (to : Target) → ComesOf n xs (with_target xs m to)
-aimed n xs zero to = one-changed n xs zero (option_map (retargeted to) (ticket_in xs zero)) (λ u at is. cc)
-aimed n xs (suc i) to = one-changed n xs (suc i) (option_map (retargeted to) (ticket_in xs (suc i))) (λ u at is. by u (ticket_in xs (suc i)) refl is)
-  where
-    by : (u : Ticket) (o : Option Ticket) → ticket_in xs (suc i) ≡ o → option_map (retargeted to) o ≡ Some u → (t : Ticket) × (ticket_in xs (suc (suc i - 1)) ≡ Some t) × (t.amount ≡ u.amount)
-    by u None at is = cc
-    by u (Some t) at is =
-        let number : suc (suc i - 1) ≡ suc i = omega arith in
-        (t, ap (ticket_in xs) number ∙ at, ap (λ (x : Ticket). x.amount) (some-injective (retargeted to t) u is))
-
--- another ticket gets an amount
-set-elsewhere : (n : ℕ) (xs : List (Option Ticket)) (m amount : ℕ) → ¬ (m ≡ n) → ComesOf n xs (with_amount xs m amount)
-set-elsewhere n xs zero amount other = one-changed n xs zero (option_map (reissued amount) (ticket_in xs zero)) (λ u at is. cc)
-set-elsewhere n xs (suc i) amount other =
-    one-changed n xs (suc i) (option_map (reissued amount) (ticket_in xs (suc i))) (λ u at is. absurd (other (let number : suc (suc i - 1) ≡ suc i = omega arith in sym number ∙ sym at)))
-
 -- ---- events and runs
 
 -- the tickets of a state after another
 abbrev KeepsIn : ℕ → State → State → Type 0
 KeepsIn n s after = ComesOf n s.tickets after.tickets
 
+-- it isn't `settkt` of the ticket
+abbrev Spares : By → ℕ → Type 0
+Spares by n = (amount : ℕ) → ¬ (by ≡ Console (SetTicket n amount))
+
+-- what the console's command changes, its event does
+by-event : (s : State) (e : Event) (c : Command) → by_event s e ≡ Console c → e ≡ event.Command c
+by-event s (event.Command d) c is = ap event.Command (by-command d is)
+  where
+    by-command : (d : Command) → by_command s d ≡ Console c → d ≡ c
+    by-command (Kill thread) same = cc
+    by-command other same = cc
+by-event s other c is = cc
+
+spared : (s : State) (e : Event) (n : ℕ) → ¬ SetsAmountOf n e → Spares (by_event s e) n
+spared s e n elsewhere amount is = elsewhere (amount, by-event s e (SetTicket n amount) is)
+
+-- what replaces a ticket has its amount
+same-amount : (by : By) (a : State) (n m : ℕ) (old new : Ticket) → Spares by n → n ≡ m → Replaces by a m old new → old.amount ≡ new.amount
+same-amount by a n m old new spares at replaces = from replaces.amount
+  where
+    from : (new.amount ≡ old.amount) ⊎ ((by ≡ Console (SetTicket m new.amount)) × IsAmount new.amount) → old.amount ≡ new.amount
+    from (inl same) = sym same
+    from (inr (sets, good)) = absurd (spares new.amount (sets ∙ ap (λ k. Console (SetTicket k new.amount)) (sym at)))
+
+-- it has its number
+there-number : (xs : List (Option Ticket)) (n : ℕ) (t : Ticket) → ticket_in xs n ≡ Some t → suc (n - 1) ≡ n
+there-number xs n t there = number-there xs n (Some t) (flatten-some (at_number xs n) t there)
+
 -- with one more ticket, where numbers are given once
 one-placed : (n : ℕ) (s : State) (ticket : Ticket) → s.limits.reuse ≡ false → ComesOf n s.tickets (placed s.tickets (free_tickets s) (Some ticket))
 one-placed n s ticket once =
     subst (λ free. ComesOf n s.tickets (placed s.tickets free (Some ticket))) (sym (ap (λ b. cond {A = List ℕ} b s.freed.tickets []) once)) (one-more n s.tickets ticket.amount ticket.issuer ticket.target)
 
-command-tickets : (n : ℕ) (s : State) (c : Command) → s.limits.reuse ≡ false → ¬ SetsAmountOf n (event.Command c) → KeepsIn n s (command_step s c).state
-command-tickets n s (MakeTicket amount currency) once elsewhere =
-    unrefused (KeepsIn n s) s _ (command_effect s (MakeTicket amount currency)) (as-they-were n s.tickets) (λ _. one-placed n s (record { amount = amount; issuer = currency_or_base s currency; target = target.Unfunded }) once)
-command-tickets n s (RemoveTicket m) once elsewhere = unrefused (KeepsIn n s) s _ (command_effect s (RemoveTicket m)) (as-they-were n s.tickets) (λ _. removed n s.tickets m)
-command-tickets n s (Fund m to) once elsewhere =
-    unrefused (KeepsIn n s) s _ (command_effect s (Fund m to)) (as-they-were n s.tickets) (λ _. aimed n s.tickets m (unwrap_or (target_meant s to) target.Unfunded))
-command-tickets n s (Unfund m) once elsewhere = unrefused (KeepsIn n s) s _ (command_effect s (Unfund m)) (as-they-were n s.tickets) (λ _. aimed n s.tickets m target.Unfunded)
-command-tickets n s (SetTicket m amount) once elsewhere =
-    unrefused (KeepsIn n s) s _ (command_effect s (SetTicket m amount)) (as-they-were n s.tickets) (λ _.
-    set-elsewhere n s.tickets m amount (λ same. elsewhere (amount, ap (λ k. event.Command (SetTicket k amount)) same)))
-command-tickets n s (MakeFunded amount currency name script) once elsewhere =
-    unrefused (KeepsIn n s) s _ (command_effect s (MakeFunded amount currency name script)) (as-they-were n s.tickets) (λ _.
-    one-placed n s (record { amount = amount; issuer = currency_or_base s currency; target = target.Thread (next_thread s) }) once)
-command-tickets n s other once elsewhere = unrefused (KeepsIn n s) s (command_refusal s other) (command_effect s other) (as-they-were n s.tickets) (λ _. as-they-were n s.tickets)
+-- each change but `settkt` of the ticket leaves its amount, where numbers are given once
+change-comes : (by : By) (s : State) (n : ℕ) → Spares by n → Keeps by s (λ a. (a.limits.reuse ≡ false) × KeepsIn n s a)
+change-comes by s n spares a (NewTicket t) allowed (once, comes) = (once, then n s.tickets a.tickets (placed a.tickets (free_tickets a) (Some t)) comes (one-placed n a t once))
+change-comes by s n spares a (DropTicket m) allowed (once, comes) = (once, then n s.tickets a.tickets (without_ticket a.tickets m) comes (removed n a.tickets m))
+change-comes by s n spares a (PutTicket m place) (console, funded, (old, new, there, is, replaces)) (once, comes) =
+    (once, then n s.tickets a.tickets (set_number a.tickets m place) comes (one-changed n a.tickets m place was))
+  where
+    number : suc (m - 1) ≡ m
+    number = there-number a.tickets m old there
 
-unchanged : (n : ℕ) (s : State) (e : Event) → ¬ (by_event s e ≡ Console) → KeepsIn n s (step s e).state
-unchanged n s e other = subst (ComesOf n s.tickets) (sym (other-tickets s e other)) (as-they-were n s.tickets)
+    was : (u : Ticket) → n ≡ suc (m - 1) → place ≡ Some u → (t : Ticket) × (ticket_in a.tickets (suc (m - 1)) ≡ Some t) × (t.amount ≡ u.amount)
+    was u at now =
+        let same : new ≡ u = some-injective new u (sym is ∙ now) in
+        (old, ap (ticket_in a.tickets) number ∙ there, same-amount by a n m old new spares (at ∙ number) replaces ∙ ap (λ (x : Ticket). x.amount) same)
+change-comes by s n spares a c allowed comes = comes
 
 event-tickets : (n : ℕ) (s : State) (e : Event) → s.limits.reuse ≡ false → ¬ SetsAmountOf n e → KeepsIn n s (step s e).state
-event-tickets n s (event.Command command) once elsewhere = command-tickets n s command once elsewhere
-event-tickets n s (event.Draw p d) once elsewhere = unchanged n s (event.Draw p d) (λ e. cc)
-event-tickets n s (event.Expire p) once elsewhere = unchanged n s (event.Expire p) (λ e. cc)
-event-tickets n s (event.Trap p ran action) once elsewhere = unchanged n s (event.Trap p ran action) (λ e. cc)
-event-tickets n s (event.Preempt p ticks) once elsewhere = unchanged n s (event.Preempt p ticks) (λ e. cc)
-event-tickets n s (event.Overrun p ticks) once elsewhere = unchanged n s (event.Overrun p ticks) (λ e. cc)
-event-tickets n s (event.Wake t) once elsewhere = unchanged n s (event.Wake t) (λ e. cc)
+event-tickets n s e once elsewhere =
+    (kept (λ a. (a.limits.reuse ≡ false) × KeepsIn n s a) (change-comes (by_event s e) s n (spared s e n elsewhere)) (step-leads s e) (once, as-they-were n s.tickets)).1
 
 run-tickets : (n : ℕ) (s : State) (events : List Event) → s.limits.reuse ≡ false → All (λ e. ¬ SetsAmountOf n e) events → KeepsIn n s (state_after s events)
 run-tickets n s [] once elsewhere = as-they-were n s.tickets
@@ -131,16 +135,16 @@ abbrev Stays : ℕ → State → State → Type 0
 Stays n s after = (t : Ticket) → ticket_in s.tickets n ≡ Some t → (u : Ticket) × (ticket_in after.tickets n ≡ Some u) × (t.amount ≡ u.amount)
 
 -- one more ticket has another number
-stays-placed : (n : ℕ) (s : State) (ticket : Ticket) → s.limits.reuse ≡ true → IsInOrder s → (t : Ticket) → ticket_in s.tickets n ≡ Some t
+stays-placed : (n : ℕ) (s : State) (ticket : Ticket) → s.limits.reuse ≡ true → HasGaps s → (t : Ticket) → ticket_in s.tickets n ≡ Some t
     → (u : Ticket) × (ticket_in (placed s.tickets (free_tickets s) (Some ticket)) n ≡ Some u) × (t.amount ≡ u.amount)
-stays-placed n s ticket on order t is =
+stays-placed n s ticket on gaps t is =
     (t, ap option_flatten (number-stays s.tickets (free_tickets s) (Some ticket) (Some t) n another (flatten-some (at_number s.tickets n) t is)), refl)
   where
     another : ¬ (slice_get (free_tickets s) 0 ≡ Some (n - 1))
     another first =
         let (i, number, here) = place_of s.tickets n t is in
         let free : slice_get s.freed.tickets 0 ≡ Some (n - 1) = sym (ap (λ b. slice_get (cond {A = List ℕ} b s.freed.tickets []) 0) on) ∙ first in
-        let gap = (order.gaps on).tickets.each (n - 1) (contains-at s.freed.tickets 0 (n - 1) free) in
+        let gap = (gaps on).tickets.each (n - 1) (contains-at s.freed.tickets 0 (n - 1) free) in
         let place : n - 1 ≡ i = omega (arith, number) in
         let never : Some (Some t) ≡ Some None = sym here ∙ ap (slice_get s.tickets) (sym place) ∙ gap in
         cc
@@ -156,46 +160,43 @@ stays-put n xs m x was (old, there) t is = by (number-set xs m x n)
         let at : n ≡ m = place ∙ number-there xs m (Some old) (flatten-some (at_number xs m) old there) in
         let (u, new, amount) = was t at is in (u, ap option_flatten now ∙ new, amount)
 
-command-stays : (n : ℕ) (s : State) (c : Command) → s.limits.reuse ≡ true → IsInOrder s → ¬ SetsAmountOf n (event.Command c) → ¬ RemovesTicket n (event.Command c) → Stays n s (command_step s c).state
-command-stays n s (MakeTicket amount currency) on order elsewhere left =
-    unrefused (Stays n s) s _ (command_effect s (MakeTicket amount currency)) (λ t is. (t, is, refl)) (λ _. stays-placed n s (record { amount = amount; issuer = currency_or_base s currency; target = target.Unfunded }) on order)
-command-stays n s (RemoveTicket m) on order elsewhere left =
-    unrefused (Stays n s) s _ (command_effect s (RemoveTicket m)) (λ t is. (t, is, refl)) (λ e.
-    let passed = all-pass ((is_none (ticket_in s.tickets m), NoTicket) ∷ (option_any is_funding (ticket_in s.tickets m), IsFunding) ∷ []) e in
-    stays-put n s.tickets m None (λ t at is. absurd (left (ap (λ k. event.Command (RemoveTicket k)) (sym at)))) (some-of (ticket_in s.tickets m) passed.0))
-command-stays n s (Fund m to) on order elsewhere left =
-    unrefused (Stays n s) s _ (command_effect s (Fund m to)) (λ t is. (t, is, refl)) (λ e.
-    let passed = all-pass ((is_none (ticket_in s.tickets m), NoTicket) ∷ (is_none (target_meant s to), NoTarget)
-    ∷ (option_any (is_currency 0) (target_meant s to), BaseFixed) ∷ (option_any (is_dead_thread s) (target_meant s to), DeadThread)
-    ∷ (option_any is_funding (ticket_in s.tickets m), IsFunding) ∷ (option_any (is_cycle s m) (target_meant s to), Cycle) ∷ []) e in
-    let goal = unwrap_or (target_meant s to) target.Unfunded in
-    stays-put n s.tickets m (option_map (retargeted goal) (ticket_in s.tickets m)) (λ t at is. (retargeted goal t, ap (option_map (retargeted goal)) (ap (ticket_in s.tickets) (sym at) ∙ is), refl)) (some-of (ticket_in s.tickets m) passed.0))
-command-stays n s (Unfund m) on order elsewhere left =
-    unrefused (Stays n s) s _ (command_effect s (Unfund m)) (λ t is. (t, is, refl)) (λ e.
-    let passed = all-pass ((is_none (ticket_in s.tickets m), NoTicket) ∷ (not (option_any is_funding (ticket_in s.tickets m)), NotFunding) ∷ []) e in
-    stays-put n s.tickets m (option_map (retargeted target.Unfunded) (ticket_in s.tickets m))
-    (λ t at is. (retargeted target.Unfunded t, ap (option_map (retargeted target.Unfunded)) (ap (ticket_in s.tickets) (sym at) ∙ is), refl)) (some-of (ticket_in s.tickets m) passed.0))
-command-stays n s (SetTicket m amount) on order elsewhere left =
-    unrefused (Stays n s) s _ (command_effect s (SetTicket m amount)) (λ t is. (t, is, refl)) (λ e.
-    let passed = all-pass ((is_bad_amount amount, BadAmount) ∷ (is_none (ticket_in s.tickets m), NoTicket) ∷ []) e in
-    stays-put n s.tickets m (option_map (reissued amount) (ticket_in s.tickets m))
-    (λ t at is. absurd (elsewhere (amount, ap (λ k. event.Command (SetTicket k amount)) (sym at)))) (some-of (ticket_in s.tickets m) passed.1.0))
-command-stays n s (MakeFunded amount currency name script) on order elsewhere left =
-    unrefused (Stays n s) s _ (command_effect s (MakeFunded amount currency name script)) (λ t is. (t, is, refl)) (λ _.
-    stays-placed n s (record { amount = amount; issuer = currency_or_base s currency; target = target.Thread (next_thread s) }) on order)
-command-stays n s other on order elsewhere left = unrefused (Stays n s) s (command_refusal s other) (command_effect s other) (λ t is. (t, is, refl)) (λ _ t is. (t, is, refl))
-
-other-stays : (n : ℕ) (s : State) (e : Event) → ¬ (by_event s e ≡ Console) → Stays n s (step s e).state
-other-stays n s e other t is = (t, ap (λ (tickets : List (Option Ticket)). ticket_in tickets n) (other-tickets s e other) ∙ is, refl)
+-- each change but `settkt` and the removal of the ticket leaves it its amount, where numbers are given again
+change-stays : (by : By) (s : State) (n : ℕ) → Spares by n → ¬ (by ≡ Console (RemoveTicket n)) → Keeps by s (λ a. (a.limits.reuse ≡ true) × HasGaps a × Stays n s a)
+change-stays by s n spares left a (NewTicket new) allowed (on, gaps, stays) = (
+  on,
+  change-gaps by s a (NewTicket new) allowed gaps,
+  λ t is.
+      let (u, there, same) = stays t is in
+      let (v, at, also) = stays-placed n a new on gaps u there in
+      (v, at, same ∙ also),
+)
+change-stays by s n spares left a (DropTicket m) (console, removes, here) (on, gaps, stays) = (
+  on,
+  change-gaps by s a (DropTicket m) (console, removes, here) gaps,
+  λ t is.
+      let (u, there, same) = stays t is in
+      let (v, at, also) = stays-put n a.tickets m None (λ x number now. absurd (left (removes ∙ ap (λ k. Console (RemoveTicket k)) (sym number)))) here u there in
+      (v, at, same ∙ also),
+)
+change-stays by s n spares left a (PutTicket m place) (console, funded, (old, new, here, now, replaces)) (on, gaps, stays) = (
+  on,
+  change-gaps by s a (PutTicket m place) (console, funded, (old, new, here, now, replaces)) gaps,
+  λ t is.
+      let (u, there, same) = stays t is in
+      let (v, at, also) = stays-put n a.tickets m place put (old, here) u there in
+      (v, at, same ∙ also),
+)
+  where
+    put : (t : Ticket) → n ≡ m → ticket_in a.tickets n ≡ Some t → (u : Ticket) × (place ≡ Some u) × (t.amount ≡ u.amount)
+    put t at is =
+        let same : t ≡ old = some-injective t old (sym is ∙ ap (ticket_in a.tickets) at ∙ here) in
+        (new, now, ap (λ (x : Ticket). x.amount) same ∙ same-amount by a n m old new spares at replaces)
+change-stays by s n spares left a c allowed (on, gaps, stays) = (on, change-gaps by s a c allowed gaps, stays)
 
 event-stays : (n : ℕ) (s : State) (e : Event) → s.limits.reuse ≡ true → IsInOrder s → ¬ SetsAmountOf n e → ¬ RemovesTicket n e → Stays n s (step s e).state
-event-stays n s (event.Command command) on order elsewhere left = command-stays n s command on order elsewhere left
-event-stays n s (event.Draw p d) on order elsewhere left = other-stays n s (event.Draw p d) (λ e. cc)
-event-stays n s (event.Expire p) on order elsewhere left = other-stays n s (event.Expire p) (λ e. cc)
-event-stays n s (event.Trap p ran action) on order elsewhere left = other-stays n s (event.Trap p ran action) (λ e. cc)
-event-stays n s (event.Preempt p ticks) on order elsewhere left = other-stays n s (event.Preempt p ticks) (λ e. cc)
-event-stays n s (event.Overrun p ticks) on order elsewhere left = other-stays n s (event.Overrun p ticks) (λ e. cc)
-event-stays n s (event.Wake t) on order elsewhere left = other-stays n s (event.Wake t) (λ e. cc)
+event-stays n s e on order elsewhere left =
+    let change = change-stays (by_event s e) s n (spared s e n elsewhere) (λ is. left (by-event s e (RemoveTicket n) is)) in
+    (kept (λ a. (a.limits.reuse ≡ true) × HasGaps a × Stays n s a) change (step-leads s e) (on, order.gaps, λ t is. (t, is, refl))).2
 
 run-stays : (n : ℕ) (s : State) (events : List Event) → s.limits.reuse ≡ true → IsInOrder s → All (λ e. ¬ SetsAmountOf n e) events → All (λ e. ¬ RemovesTicket n e) events → Stays n s (state_after s events)
 run-stays n s [] on order elsewhere left t is = (t, is, refl)
@@ -231,23 +232,8 @@ removes n (event.Command (RemoveTicket m)) = by (cases_eq m n)
     by : (m ≡ n) ⊎ (m ≡ n → ⊥) → RemovesTicket n (event.Command (RemoveTicket m)) ⊎ (¬ RemovesTicket n (event.Command (RemoveTicket m)))
     by (inl same) = inl (ap (λ k. event.Command (RemoveTicket k)) same)
     by (inr other) = inr (λ e. other (same-number e))
-removes n (event.Command (MakeTicket amount currency)) = inr (λ e. cc)
-removes n (event.Command (MakeCurrency name)) = inr (λ e. cc)
-removes n (event.Command (RemoveCurrency currency)) = inr (λ e. cc)
-removes n (event.Command (Fund m to)) = inr (λ e. cc)
-removes n (event.Command (Unfund m)) = inr (λ e. cc)
-removes n (event.Command (SetTicket m amount)) = inr (λ e. cc)
-removes n (event.Command (MakeThread name script)) = inr (λ e. cc)
-removes n (event.Command (RemoveThread thread)) = inr (λ e. cc)
-removes n (event.Command (Kill thread)) = inr (λ e. cc)
-removes n (event.Command (MakeFunded amount currency name script)) = inr (λ e. cc)
-removes n (event.Command (Listing kind)) = inr (λ e. cc)
-removes n (event.Draw p d) = inr (λ e. cc)
-removes n (event.Expire p) = inr (λ e. cc)
-removes n (event.Trap p ran action) = inr (λ e. cc)
-removes n (event.Preempt p ticks) = inr (λ e. cc)
-removes n (event.Overrun p ticks) = inr (λ e. cc)
-removes n (event.Wake t) = inr (λ e. cc)
+removes n (event.Command other) = inr (λ e. cc)
+removes n other = inr (λ e. cc)
 
 pub event-amount : (s : State) (e : Event) (n : ℕ) → ¬ SetsAmountOf n e → (s.limits.reuse ≡ true → IsInOrder s) → KeepsAmount (funding_of s) (funding_of (step s e).state) n
 event-amount s e n elsewhere order = at s.limits.reuse refl

@@ -1,5 +1,5 @@
 -- In a reachable state each served thread is among the clients of its server.
-use Rattle.lot_laws.proofs.Common.{Action, After, BadProcessor, BadTicks, Bool, By, Call, Command, DeadThread, Drawn, Effect, Ends, Event, Exit, GoesOn, IsAmong, IsInOrder, IsReachable, Keeps, Kill, Leaves, List, Lock, MakeFunded, MakeThread, Mutex, NewThread, NoPort, NoThread, None, NotRunning, NothingToReply, Option, Port, PutClients, PutRecord, QueuedCall, Receive, Record, Serve, Sleep, Some, State, Status, TrapRefusal, Unlock, Yield, after_trap, all-pass, among-append_left, among-append_right, ap, arith, at_number, at_number-map, at_number-suc, before_lock, by_event, call, change_each, change_record, checked_effect, client-waits, clients_of, command_effect, command_refusal, command_step, compensation_for, cond, contains-at, draw, drop, each-now, ended, event_effect, false, first_client, free_threads, get_or, inl, inr, is_bad_processor, is_dead_in, is_none, kept, killed, killed-dead, killed-either, length, length-append, length-set, lock, map, meant-number, mutex_at, nat_lt, newborn, next_place, number-next, number-placed, number-set, number-set_same, number-there, numbered, of_mutexes, of_ports, opening, opening-order, option_any, option_map, placed, port_at, ready_threads, receive, refl, released, released_by, reply, set_number, slice_get, slice_get_cases, slice_index, some-injective, started, state_after, status-changed, status-now, status-other, status_of, step, step-leads, step-order, stopped, subst, suc, sym, there-runs, thread_meant, thread_on, thread_there, trap, trap_effect, trap_refusal, true, unlock, unrefused, unwrap_or, used_there, value_of, weight_of, winner, with_ticks, without, zero, ℕ, [], ◌++◌, ◌+◌, ◌-◌, ◌<◌, ◌∙◌, ◌∷◌, ◌≡◌, ◌≤◌, ◌⊎◌}
+use Rattle.lot_laws.proofs.Common.{Action, After, BadProcessor, BadTicks, Bool, By, Call, Command, DeadThread, Drawn, Effect, Ends, Event, Exit, GoesOn, IsAmong, IsInOrder, IsReachable, Keeps, Kill, Leaves, List, Lock, MakeFunded, MakeThread, Mutex, NewThread, NoPort, NoThread, None, NotRunning, NothingToReply, Option, Port, PutClients, PutRecord, QueuedCall, Receive, Record, Serve, Some, State, Status, TrapRefusal, Unlock, after_trap, all-pass, among-append_left, among-append_right, ap, arith, at_number, at_number-map, at_number-suc, before_lock, by_event, call, change_each, change_record, checked_effect, client-waits, clients_of, command_effect, command_refusal, command_step, compensation_for, cond, contains-at, draw, drop, each-now, ended, event_effect, false, first_client, free_threads, get_or, inl, inr, is_bad_processor, is_dead_in, is_none, kept, killed, killed-dead, killed-either, length, length-append, length-set, lock, map, meant-number, mutex_at, nat_lt, newborn, next_place, number-next, number-placed, number-set, number-set_same, number-there, numbered, of_mutexes, of_ports, opening, opening-order, option_any, option_map, placed, port_at, ready_threads, receive, refl, released, released_by, reply, set_number, slice_get, slice_get_cases, slice_index, some-injective, started, state_after, status-changed, status-now, status-other, status_of, step, step-leads, step-order, stopped, subst, suc, sym, there-runs, thread_meant, thread_on, thread_there, trap, trap_effect, trap_refusal, true, unlock, unrefused, unwrap_or, used_there, value_of, weight_of, winner, with_ticks, without, zero, ℕ, [], ◌++◌, ◌+◌, ◌-◌, ◌<◌, ◌∙◌, ◌∷◌, ◌≡◌, ◌≤◌, ◌⊎◌}
 use Rattle.lot_machine.specs.declared.record.Status.TheVariants as status
 use Rattle.lot_machine.specs.declared.trap.Trap.TheVariants.{Reply as ReplyTo}
 use Rattle.lot_machine.specs.declared.event.Event.TheVariants as event
@@ -194,8 +194,6 @@ module _ (finish : After → Record → Record) (leaves : (now : Status) (r : Re
           (keep-change (λ r. record r { status = status.Ready }) s.records s.clients passed (λ r v e. ready-not r v e) listed))
 
   effect-listed : (action : Action) → trap_refusal s t action ≡ None → Done (trap_effect s t action)
-  effect-listed Yield allowed = keep-change (finish (Leaves status.Ready)) s.records s.clients t (leaves-other status.Ready (λ v e. cc)) listed
-  effect-listed (Sleep n) allowed = keep-change (finish (Leaves status.Asleep)) s.records s.clients t (leaves-other status.Asleep (λ v e. cc)) listed
   effect-listed Exit allowed = keep-change (finish Ends) s.records s.clients t ends listed
   effect-listed (Call port number) allowed = call-listed port number
   effect-listed (Receive port) allowed = receive-listed s port own-list.0 own-list.1 listed
@@ -208,6 +206,7 @@ module _ (finish : After → Record → Record) (leaves : (now : Status) (r : Re
       receive-listed (of_ports s (reply s.records s.clients s.ports t number)).state port (drop 1 (clients_of s.clients t)) (number-set_same s.clients t (drop 1 (clients_of s.clients t)) own-list.0 own-list.1) (replied-listed number passed.1.0)
   effect-listed (Lock m) allowed = lock-listed (before_lock s t m) m
   effect-listed (Unlock m d) allowed = unlock-listed (value_of s) m d
+  effect-listed other allowed = keep-change (finish (trap_effect s t other).after) s.records s.clients t (leaves-other _ (λ v e. cc)) listed
 
   checked-listed : (action : Action) (o : Option TrapRefusal) → trap_refusal s t action ≡ o → Done (checked_effect s o (trap_effect s t action))
   checked-listed action None allowed = effect-listed action allowed

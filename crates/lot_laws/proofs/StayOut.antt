@@ -1,25 +1,24 @@
 -- Nothing refers to a removed thread: tickets, lends and owners that an event makes name an existing thread.
-use Rattle.lot_laws.proofs.Common.{Action, After, Alive, All-head, All-tail, BadProcessor, BadTicks, Bool, By, Call, Command, Console, Contains, Currency, Drawn, Edge, Effect, Ends, EndsAre, Event, Exit, Fund, Funding, GoesOn, InUse, IsAlive, IsInOrder, IsNotGiven, IsQueue, IsReachable, IsRemoved, Keeps, Kill, Leaves, Lend, List, Lock, MakeCurrency, MakeFunded, MakeThread, MakeTicket, Mutex, NewThread, NoThread, Nobody, Node, None, NotRunning, NothingLeadsToRemoved, OfLender, OfMutex, OfTicket, Option, Outcome, PutRecord, QueuedCall, Receive, Record, Refusal, RemoveCurrency, RemoveThread, RemoveTicket, Serve, SetTicket, Sizes, Sleep, Some, StandsNowhere, State, Status, Target, TargetRef, Thread, Ticket, ToMutex, ToThread, TrapRefusal, Unfund, Unlock, Yield, after_trap, alive-of, all-pass, ap, arith, at_number, at_number-map, at_number-suc, before_lock, by_event, call, change_record, checked_effect, command_effect, command_refusal, command_step, compensation_for, cond, currency_meant, currency_named, currency_or_base, draw, drop_thread, edge_count_into, edges-many, edges_into, ends-are, ends_of, event_effect, false, first_client, free_threads, free_tickets, funding_of, get_or, heir-waits, held_by, holder_of, if◌then◌else◌, inl, inr, into-once, is-dead, is_bad_processor, is_dead_in, is_meant_by, is_none, is_owned_by, is_some, is_thread_in_use, kept, killed, killed-either, leads_back, lend-at, lend_node, lend_of, lends_at, lends_lead, lends_on_to, length, lock, ltb-false, map, mutex_at, mutex_without, nat_lt, newborn, next_place, next_thread, not, number-mapped, number-placed, number-set, number-stays, number-there, of_mutexes, of_ports, opening, opening-order, option_and_then, option_any, option_flatten, option_map, option_or, other-sizes, other-tickets, owner-either, pair, place-in, place-set, place-set_same, placed, port_at, port_holders, position, position-Some, ready_threads, receive, receiver-alive, record-of, refl, reissued, remove, replies, reply, retargeted, serve, served_at, set_number, slice_get, slice_get-get_or, slice_index, slice_set, some-injective, started, state_after, status-changed, status-number, status_of, step, step-leads, step-limits, step-order, stopped, subst, suc, sym, target_meant, target_named, target_node, there-alive, thread_at, thread_given, thread_meant, thread_named, thread_on, thread_there, ticket_at, ticket_in, trap, trap_effect, trap_refusal, true, unless_refused, unlock, unrefused, unserved, unserved_at, unwrap_or, used_there, value_of, waiter-alive, wake, weight_of, winner, with_amount, with_server, with_target, with_thread, with_ticks, without, zero, ℕ, [], ◌++◌, ◌+◌, ◌-◌, ◌==◌, ◌||◌, ◌∙◌, ◌∷◌, ◌≡◌, ◌≢◌, ◌⊎◌}
+use Rattle.lot_laws.proofs.Common.{Action, After, All-head, All-tail, BadProcessor, BadTicks, Bool, By, Call, Command, Contains, Currency, Drawn, Edge, Effect, Ends, EndsAre, Event, Exit, Funding, GoesOn, IsAlive, IsInOrder, IsNotGiven, IsQueue, IsReachable, IsRemoved, Keeps, Kill, Leaves, Lend, List, Lock, MakeFunded, MakeThread, Mutex, NewThread, Nobody, Node, None, NotRunning, NothingLeadsToRemoved, OfLender, OfMutex, OfTicket, Option, Outcome, PutRecord, QueuedCall, Receive, Record, Refusal, RemoveThread, Serve, Sizes, Some, StandsNowhere, State, Status, Target, Thread, Ticket, ToMutex, ToThread, TrapRefusal, Unlock, after_trap, alive-of, all-pass, ap, arith, at_number, at_number-map, at_number-suc, before_lock, by_event, call, change_record, checked_effect, command_effect, command_refusal, command_step, compensation_for, cond, draw, drop_thread, edge_count_into, edges-many, edges_into, ends-are, ends_of, event_effect, false, first_client, free_threads, free_tickets, funding_of, heir-waits, held_by, holder_of, if◌then◌else◌, inl, inr, into-once, is_bad_processor, is_none, is_owned_by, kept, killed, killed-either, leads_back, lend-at, lend_node, lend_of, lends_at, lends_lead, lends_on_to, lock, map, mutex_at, mutex_without, nat_lt, newborn, next_place, next_thread, number-mapped, number-placed, number-set, number-stays, number-there, of_mutexes, of_ports, opening, opening-order, option_and_then, option_any, option_flatten, option_map, other-sizes, other-tickets, owner-either, pair, place-in, placed, port_at, port_holders, ready_threads, receive, receiver-alive, record-of, refl, remove, replies, reply, serve, served_at, set_number, slice_get, slice_index, some-injective, started, state_after, status-changed, status-number, status_of, step, step-leads, step-limits, step-order, stopped, subst, suc, sym, target_node, there-alive, thread_given, thread_meant, thread_on, thread_there, ticket_at, trap, trap_effect, trap_refusal, true, unless_refused, unlock, unrefused, unserved, unserved_at, unwrap_or, used_there, value_of, waiter-alive, wake, weight_of, winner, with_server, with_thread, with_ticks, without, zero, ℕ, [], ◌++◌, ◌+◌, ◌-◌, ◌==◌, ◌∙◌, ◌∷◌, ◌≡◌, ◌≢◌, ◌⊎◌}
 use Rattle.lot_machine.specs.declared.ticket.Target.TheVariants as target
+use Rattle.lot_machine.specs.Change.{DropThread, DropTicket, NewTicket, PutMutex, PutTicket}
+use Rattle.lot_machine.proofs.StepChanges.{IsConsole, IsIn, MayFund, is_console}
+use Rattle.lot_laws.proofs.EachTicket.{EachOf, each-placed, each-put}
 use Rattle.lot_machine.specs.declared.record.Thread.{Thread as ThreadRecord}
 use Rattle.lot_machine.specs.declared.record.Status.TheVariants as status
 use Rattle.lot_machine.specs.declared.funding.Node.TheVariants.{Mutex as MutexNode}
 use Rattle.lot_machine.specs.declared.trap.Trap.TheVariants.{Reply as ReplyTo}
-use Rattle.lot_machine.specs.declared.command.Command.TheVariants.{List as Listing}
-use Rattle.lot_machine.specs.declared.reference.CurrencyRef.TheVariants as currency_ref
-use Rattle.lot_machine.specs.declared.reference.TargetRef.TheVariants as target_ref
 use Rattle.lot_machine.specs.declared.event.Event.TheVariants as event
 use Rattle.lot_machine.specs.declared.reply.Outcome.TheVariants as outcome
 
 -- ---- whom a state refers to
 
--- the thread wasn't removed
-abbrev IsIn : List (Option ThreadRecord) → ℕ → Type 0
-IsIn threads t = ¬ (at_number threads t ≡ Some None)
-
 -- whom tickets fund, whom threads lend to if they lend, and who owns a mutex, is so
+abbrev Funds : (ℕ → Type 0) → Ticket → Type 0
+Funds IsSo ticket = (t : ℕ) → ticket.target ≡ target.Thread t → IsSo t
+
 abbrev Funded : (ℕ → Type 0) → List (Option Ticket) → Type 0
-Funded IsSo tickets = (n t : ℕ) (ticket : Ticket) → ticket_in tickets n ≡ Some ticket → ticket.target ≡ target.Thread t → IsSo t
+Funded IsSo tickets = EachOf (Funds IsSo) tickets
 
 abbrev Lent : (ℕ → Type 0) → List Record → Type 0
 Lent IsSo records = (u t : ℕ) → status_of records u ≡ Some (status.Served t) → IsSo t
@@ -61,7 +60,7 @@ owner-edge s m t mutex at is =
 -- no edge leads there, so nothing refers to it
 refers-from : (s : State) → NothingLeadsToRemoved s → RefersIn s
 refers-from s none = (
-  λ n t ticket at is gone. none t gone (Currency ticket.issuer) (OfTicket n, ticket-edge (funding_of s) n t ticket at is),
+  λ n ticket at t is gone. none t gone (Currency ticket.issuer) (OfTicket n, ticket-edge (funding_of s) n t ticket at is),
   λ u t is on gone. none t gone (Thread u) (OfLender u, lend-edge s u t on is),
   λ m t mutex at is gone. none t gone (MutexNode m) (OfMutex m, owner-edge s m t mutex at is),
 )
@@ -110,7 +109,7 @@ edges-from s refers t gone from (edge, ends) = by edge (ends-are (funding_of s) 
     owned m owner to (Some mutex) at e = let same : owner ≡ t = cc in refers.2 m t mutex at (e ∙ ap Some same) gone
 
     by : (edge : Edge) → EndsAre (funding_of s) edge from (Thread t) → ⊥
-    by (OfTicket n) (ticket, at, first, to) = refers.0 n t ticket at (target-thread ticket.target t to) gone
+    by (OfTicket n) (ticket, at, first, to) = refers.0 n ticket at t (target-thread ticket.target t to) gone
     by (OfLender u) (lend, at, first, to) = lent u lend to (at_number s.records u) refl (sym (at_number-map (λ (r : Record). lend_of s.limits r.status) s.records u) ∙ at)
     by (OfMutex m) (owner, at, first, to) =
         owned m owner to (at_number s.mutexes m) refl (sym (ap option_flatten (at_number-map (λ (x : Mutex). x.owner) s.mutexes m)) ∙ at)
@@ -139,38 +138,6 @@ module _ (IsSo : ℕ → Type 0) where
       from : (at_number (set_number mutexes m x) k ≡ at_number mutexes k) ⊎ ((k ≡ suc (m - 1)) × (at_number (set_number mutexes m x) k ≡ Some x)) → IsSo t
       from (inl same) = old k t mutex (sym same ∙ at) is
       from (inr (place, now)) = new t (ap (λ (y : Mutex). y.owner) (some-injective x mutex (sym now ∙ at)) ∙ is)
-
-  funded-set : (tickets : List (Option Ticket)) (m : ℕ) (x : Option Ticket) → ((t : ℕ) (ticket : Ticket) → x ≡ Some ticket → ticket.target ≡ target.Thread t → IsSo t) → Funded IsSo tickets → Funded IsSo (set_number tickets m x)
-  funded-set tickets m x new old n t ticket at is = from (number-set tickets m x n)
-    where
-      from : (at_number (set_number tickets m x) n ≡ at_number tickets n) ⊎ ((n ≡ suc (m - 1)) × (at_number (set_number tickets m x) n ≡ Some x)) → IsSo t
-      from (inl same) = old n t ticket (sym (ap option_flatten same) ∙ at) is
-      from (inr (place, now)) = new t ticket (sym (ap option_flatten now) ∙ at) is
-
-  funded-more : (tickets : List (Option Ticket)) (free : List ℕ) (amount issuer : ℕ) (to : Target) → ((t : ℕ) → to ≡ target.Thread t → IsSo t) → Funded IsSo tickets
-      → Funded IsSo (placed tickets free (Some (record { amount = amount; issuer = issuer; target = to })))
-  funded-more tickets free amount issuer to new old n t ticket at is = from (number-placed tickets free (Some made) n)
-    where
-      made : Ticket
-      made = record { amount = amount; issuer = issuer; target = to }
-
-      from : (at_number (placed tickets free (Some made)) n ≡ at_number tickets n) ⊎ (at_number (placed tickets free (Some made)) n ≡ Some (Some made)) → IsSo t
-      from (inl same) = old n t ticket (sym (ap option_flatten same) ∙ at) is
-      from (inr now) = new t (ap (λ (x : Ticket). x.target) (some-injective made ticket (sym (ap option_flatten now) ∙ at)) ∙ is)
-
-  funded-aimed : (tickets : List (Option Ticket)) (m : ℕ) (to : Target) → ((t : ℕ) → to ≡ target.Thread t → IsSo t) → Funded IsSo tickets → Funded IsSo (with_target tickets m to)
-  funded-aimed tickets m to new old = funded-set tickets m (option_map (retargeted to) (ticket_in tickets m)) (λ t ticket is. by t ticket (ticket_in tickets m) is) old
-    where
-      by : (t : ℕ) (ticket : Ticket) (o : Option Ticket) → option_map (retargeted to) o ≡ Some ticket → ticket.target ≡ target.Thread t → IsSo t
-      by t ticket None is aimed = cc
-      by t ticket (Some u) is aimed = new t (ap (λ (x : Ticket). x.target) (some-injective (retargeted to u) ticket is) ∙ aimed)
-
-  funded-amount : (tickets : List (Option Ticket)) (m amount : ℕ) → Funded IsSo tickets → Funded IsSo (with_amount tickets m amount)
-  funded-amount tickets m amount old = funded-set tickets m (option_map (reissued amount) (ticket_in tickets m)) (λ t ticket is. by t ticket (ticket_in tickets m) refl is) old
-    where
-      by : (t : ℕ) (ticket : Ticket) (o : Option Ticket) → ticket_in tickets m ≡ o → option_map (reissued amount) o ≡ Some ticket → ticket.target ≡ target.Thread t → IsSo t
-      by t ticket None at is aimed = cc
-      by t ticket (Some u) at is aimed = old m t u at (ap (λ (x : Ticket). x.target) (some-injective (reissued amount u) ticket is) ∙ aimed)
 
 -- ---- traps
 
@@ -382,21 +349,11 @@ module _ (s : State) (order : IsInOrder s) where
                     let waits = heir-waits s order.queues t v (record { mutex = m; held = held; there = here; owned = mine; first = first }) in
                     alive-in v (alive-of s.records v (status.Waiting m) waits (λ e. cc))
 
-    command-good : (c : Command) → ¬ (by_event s (event.Command c) ≡ Console) → LendsWell (step s (event.Command c)).state
+    command-good : (c : Command) → ¬ IsConsole (by_event s (event.Command c)) → LendsWell (step s (event.Command c)).state
     command-good (Kill thread) other = unrefused LendsWell s _ (command_effect s (Kill thread)) (lent, owned) (λ _. kill-good (unwrap_or (thread_meant s thread) 0))
-    command-good (MakeTicket amount currency) other = absurd (other refl)
-    command-good (RemoveTicket n) other = absurd (other refl)
-    command-good (MakeCurrency name) other = absurd (other refl)
-    command-good (RemoveCurrency currency) other = absurd (other refl)
-    command-good (Fund n to) other = absurd (other refl)
-    command-good (Unfund n) other = absurd (other refl)
-    command-good (SetTicket n amount) other = absurd (other refl)
-    command-good (MakeThread name script) other = absurd (other refl)
-    command-good (RemoveThread thread) other = absurd (other refl)
-    command-good (MakeFunded amount currency name script) other = absurd (other refl)
-    command-good (Listing kind) other = absurd (other refl)
+    command-good c other = absurd (other refl)
 
-    other-good : (e : Event) → ¬ (by_event s e ≡ Console) → LendsWell (step s e).state
+    other-good : (e : Event) → ¬ IsConsole (by_event s e) → LendsWell (step s e).state
     other-good (event.Command command) other = command-good command other
     other-good (event.Draw q d) other = unrefused LendsWell s _ (draw s q d) (lent, owned) (λ _. draw-good q d)
     other-good (event.Expire q) other = unrefused LendsWell s _ (event_effect s (event.Expire q)) (lent, owned) (λ _. stopped-good (thread_there s q) (s.limits.quantum - used_there s q) None)
@@ -410,7 +367,7 @@ module _ (s : State) (order : IsInOrder s) where
         trap-good q (thread_there s q) (used_there s q) ran action (alive-in (thread_there s q) (there-alive s q passed.1.0)))
 
 -- an event that changes no tickets and makes no thread
-other-refers : (s : State) (e : Event) → ¬ (by_event s e ≡ Console) → IsInOrder s → RefersIn s → RefersIn (step s e).state
+other-refers : (s : State) (e : Event) → ¬ IsConsole (by_event s e) → IsInOrder s → RefersIn s → RefersIn (step s e).state
 other-refers s e other order refers =
     let good = other-good s order refers.1 refers.2 e other in
     let funded : Funded (IsIn s.threads) (step s e).state.tickets = subst (Funded (IsIn s.threads)) (sym (other-tickets s e other)) refers.0 in
@@ -426,88 +383,25 @@ in-more threads free x t here gone = from (number-placed threads free (Some x) t
     from (inl same) = here (sym same ∙ gone)
     from (inr made) = let never : Some (Some x) ≡ Some None = sym made ∙ gone in cc
 
--- and the one that is made is there
-in-last : (threads : List (Option ThreadRecord)) (free : List ℕ) (x : ThreadRecord) → IsIn (placed threads free (Some x)) (next_place threads free + 1)
-in-last threads free x gone =
-    let next : next_place threads free + 1 ≡ suc (next_place threads free) = omega arith in
-    last free (sym (at_number-suc (placed threads free (Some x)) (next_place threads free)) ∙ ap (at_number (placed threads free (Some x))) (sym next) ∙ gone)
-  where
-    pushed : (ts : List (Option ThreadRecord)) → slice_get (ts ++ Some x ∷ []) (length ts) ≡ Some (Some x)
-    pushed [] = refl
-    pushed (u ∷ us) = pushed us
-
-    put : (place : ℕ) (o : Option (Option ThreadRecord)) → slice_get threads place ≡ o → slice_get (slice_set threads place (Some x)) place ≡ Some None → ⊥
-    put place (Some y) is none = let never : Some (Some x) ≡ Some None = sym (place-set_same threads place (Some x) y is) ∙ none in cc
-    put place None is none = from (place-set threads place (Some x) place)
-      where
-        from : (slice_get (slice_set threads place (Some x)) place ≡ slice_get threads place) ⊎ ((place ≡ place) × (slice_get (slice_set threads place (Some x)) place ≡ Some (Some x))) → ⊥
-        from (inl same) = let never : None ≡ Some None = sym is ∙ sym same ∙ none in cc
-        from (inr (at, made)) = let never : Some (Some x) ≡ Some None = sym made ∙ none in cc
-
-    last : (places : List ℕ) → slice_get (placed threads places (Some x)) (next_place threads places) ≡ Some None → ⊥
-    last [] none = let never : Some (Some x) ≡ Some None = sym (pushed threads) ∙ none in cc
-    last (place ∷ places) none = put place (slice_get threads place) refl none
-
--- who has a name is there
-named-in : (name : List ℕ) (threads : List (Option ThreadRecord)) (t : ℕ) → option_map (λ place. place + 1) (position (option_any (λ (x : ThreadRecord). is_meant_by name x.name)) threads) ≡ Some t → IsIn threads t
-named-in name threads t = by (position (option_any (λ (x : ThreadRecord). is_meant_by name x.name)) threads) refl
-  where
-    passes : (o : Option ThreadRecord) → option_any (λ (x : ThreadRecord). is_meant_by name x.name) o ≡ true → ¬ (o ≡ None)
-    passes None e none = cc
-    passes (Some x) e none = cc
-
-    by : (o : Option ℕ) → position (option_any (λ (x : ThreadRecord). is_meant_by name x.name)) threads ≡ o → option_map (λ place. place + 1) o ≡ Some t → IsIn threads t
-    by None is e gone = cc
-    by (Some place) is e gone =
-        let found = position-Some (option_any (λ (x : ThreadRecord). is_meant_by name x.name)) threads place None is in
-        let number : suc place ≡ t = let next : suc place ≡ place + 1 = omega arith in next ∙ some-injective (place + 1) t e in
-        let there : at_number threads t ≡ Some (get_or threads place None) = ap (at_number threads) (sym number) ∙ at_number-suc threads place ∙ slice_get-get_or threads place None found.0 in
-        passes (get_or threads place None) found.1 (some-injective (get_or threads place None) None (sym there ∙ gone))
-
-target-named-in : (s : State) (name : List ℕ) (t : ℕ) → unwrap_or (target_named s name) target.Unfunded ≡ target.Thread t → IsIn s.threads t
-target-named-in s name t = by (currency_named s name) (thread_named s name) refl
-  where
-    by : (o p : Option ℕ) → thread_named s name ≡ p → unwrap_or (option_or (option_map target.Currency o) (option_map target.Thread p)) target.Unfunded ≡ target.Thread t → IsIn s.threads t
-    by (Some c) p is e = cc
-    by None (Some u) is e = let same : u ≡ t = cc in named-in name s.threads t (is ∙ ap Some same)
-    by None None is e = cc
-
--- a thread that is meant is there
-target-in : (s : State) (to : TargetRef) (t : ℕ) → unwrap_or (target_meant s to) target.Unfunded ≡ target.Thread t → IsIn s.threads t
-target-in s (target_ref.Named name) t = target-named-in s name t
-target-in s (target_ref.Currency c) t = by (currency_meant s (currency_ref.Numbered c))
-  where
-    by : (o : Option ℕ) → unwrap_or (option_map target.Currency o) target.Unfunded ≡ target.Thread t → IsIn s.threads t
-    by None e = cc
-    by (Some d) e = cc
-target-in s (target_ref.Thread u) t = by (thread_at s.threads u) refl
-  where
-    by : (o : Option ThreadRecord) → thread_at s.threads u ≡ o → unwrap_or (option_map target.Thread (option_map (λ (x : ThreadRecord). u) o)) target.Unfunded ≡ target.Thread t → IsIn s.threads t
-    by None is e = cc
-    by (Some x) is e =
-        let same : u ≡ t = cc in
-        subst (IsIn s.threads) same (λ gone. let never : Some x ≡ None = sym is ∙ ap option_flatten gone in cc)
-
 -- nothing leads to a node without an edge into it
-unused : (f : Funding) (node : Node) → nat_lt 0 (edge_count_into f node) ≡ false → (edge : Edge) (from : Node) → ¬ (ends_of f edge ≡ Some (pair from node))
+unused : (f : Funding) (node : Node) → edge_count_into f node ≡ 0 → (edge : Edge) (from : Node) → ¬ (ends_of f edge ≡ Some (pair from node))
 unused f node none edge from ends =
     let there : Contains (edges_into f node) edge = (into-once f node).all edge (from, ends) in
-    let few : edge_count_into f node ≡ 0 = omega (arith, ltb-false 0 (edge_count_into f node) none) in
-    absurd (omega (arith, there.1, edges-many f node, few))
+    absurd (omega (arith, there.1, edges-many f node, none))
 
 refers-more : (s : State) (name : List ℕ) (script : ℕ) → RefersIn s → RefersIn (with_thread s name script)
 refers-more s name script (funded, lent, owned) =
     let threads = placed s.threads (free_threads s) (Some (record { name = name; script = script })) in
     let more : (t : ℕ) → IsIn s.threads t → IsIn threads t = in-more s.threads (free_threads s) (record { name = name; script = script }) in (
-      λ n t ticket at is. more t (funded n t ticket at is),
+      λ n ticket at t is. more t (funded n ticket at t is),
       lent-more (λ t. s.limits.without_lending ≡ false → IsIn threads t) s.records (free_threads s) newborn refl (λ u t is on. more t (lent u t is on)),
       λ m t mutex at is. more t (owned m t mutex at is),
     )
 
 -- a dead thread goes to which nothing leads
-refers-dropped : (s : State) (gone : ℕ) → status_of s.records gone ≡ Some status.Dead → nat_lt 0 (edge_count_into (funding_of s) (Thread gone)) ≡ false → RefersIn s → RefersIn (record s { threads = set_number s.threads gone None })
+refers-dropped : (s : State) (gone : ℕ) → status_of s.records gone ≡ Some status.Dead → edge_count_into (funding_of s) (Thread gone) ≡ 0 → RefersIn s → RefersIn (record s { threads = set_number s.threads gone None })
 refers-dropped s gone dead none (funded, lent, owned) = (
-  λ n t ticket at is. still t (funded n t ticket at is) (λ same. unused (funding_of s) (Thread gone) none (OfTicket n) (Currency ticket.issuer) (ticket-edge (funding_of s) n gone ticket at (is ∙ ap target.Thread same))),
+  λ n ticket at t is. still t (funded n ticket at t is) (λ same. unused (funding_of s) (Thread gone) none (OfTicket n) (Currency ticket.issuer) (ticket-edge (funding_of s) n gone ticket at (is ∙ ap target.Thread same))),
   λ u t is on. still t (lent u t is on) (λ same. unused (funding_of s) (Thread gone) none (OfLender u) (Thread u) (lend-edge s u gone on (is ∙ ap (λ k. Some (status.Served k)) same))),
   λ m t mutex at is. still t (owned m t mutex at is) (λ same. unused (funding_of s) (Thread gone) none (OfMutex m) (MutexNode m) (owner-edge s m gone mutex at (is ∙ ap Some same))),
 )
@@ -519,57 +413,30 @@ refers-dropped s gone dead none (funded, lent, owned) = (
         from (inl same) = here (sym same ∙ now)
         from (inr (place, is)) = other (place ∙ status-number s.records gone status.Dead dead)
 
-command-refers : (s : State) (c : Command) → IsInOrder s → RefersIn s → RefersIn (command_step s c).state
-command-refers s (MakeTicket amount currency) order refers =
-    unrefused RefersIn s _ (command_effect s (MakeTicket amount currency)) refers (λ _. (funded-more (IsIn s.threads) s.tickets (free_tickets s) amount (currency_or_base s currency) target.Unfunded (λ t e. cc) refers.0, refers.1, refers.2))
-command-refers s (RemoveTicket n) order refers =
-    unrefused RefersIn s _ (command_effect s (RemoveTicket n)) refers (λ _. (funded-set (IsIn s.threads) s.tickets n None (λ t ticket e. cc) refers.0, refers.1, refers.2))
-command-refers s (Fund n to) order refers =
-    unrefused RefersIn s _ (command_effect s (Fund n to)) refers (λ _. (funded-aimed (IsIn s.threads) s.tickets n (unwrap_or (target_meant s to) target.Unfunded) (target-in s to) refers.0, refers.1, refers.2))
-command-refers s (Unfund n) order refers =
-    unrefused RefersIn s _ (command_effect s (Unfund n)) refers (λ _. (funded-aimed (IsIn s.threads) s.tickets n target.Unfunded (λ t e. cc) refers.0, refers.1, refers.2))
-command-refers s (SetTicket n amount) order refers =
-    unrefused RefersIn s _ (command_effect s (SetTicket n amount)) refers (λ _. (funded-amount (IsIn s.threads) s.tickets n amount refers.0, refers.1, refers.2))
-command-refers s (MakeThread name script) order refers = unrefused RefersIn s _ (command_effect s (MakeThread name script)) refers (λ _. refers-more s name script refers)
-command-refers s (RemoveThread thread) order refers =
-    unrefused RefersIn s _ (command_effect s (RemoveThread thread)) refers (λ e.
-    let passed = all-pass ((is_none (thread_meant s thread), NoThread) ∷ (not (option_any (is_dead_in s) (thread_meant s thread)), Alive)
-    ∷ (option_any (is_thread_in_use s) (thread_meant s thread), InUse) ∷ []) e in
-    by (thread_meant s thread) passed.0 passed.1.0 passed.1.1.0)
+-- what the console changes
+change-refers : (by : By) (s : State) → IsConsole by → Keeps by s RefersIn
+change-refers by s console a (NewTicket t) (_, amount, room, none, issuer, may) (funded, lent, owned) = (each-placed (Funds (IsIn a.threads)) a.tickets (free_tickets a) t may.1 funded, lent, owned)
+change-refers by s console a (DropTicket n) allowed (funded, lent, owned) = (each-put (Funds (IsIn a.threads)) a.tickets n None (λ t is. cc) funded, lent, owned)
+change-refers by s console a (PutTicket n place) (_, keeps, (old, new, at, is, replaces)) (funded, lent, owned) =
+    (each-put (Funds (IsIn a.threads)) a.tickets n place (λ t now. subst (Funds (IsIn a.threads)) (some-injective new t (sym is ∙ now)) (aimed replaces.aim)) funded, lent, owned)
   where
-    holds : (b : Bool) → not b ≡ false → b ≡ true
-    holds true e = refl
-    holds false e = cc
-
-    neither : (a b : Bool) → (a || b) ≡ false → a ≡ false
-    neither true b e = cc
-    neither false b e = refl
-
-    by : (o : Option ℕ) → is_none o ≡ false → not (option_any (is_dead_in s) o) ≡ false → option_any (is_thread_in_use s) o ≡ false → RefersIn (record s { threads = set_number s.threads (unwrap_or o 0) None })
-    by None named alive used = cc
-    by (Some t) named alive used = refers-dropped s t (is-dead (status_of s.records t) (holds (is_dead_in s t) alive)) (neither (nat_lt 0 (edge_count_into (funding_of s) (Thread t))) (is_some (first_client s.clients t)) used) refers
-command-refers s (MakeFunded amount currency name script) order refers =
-    unrefused RefersIn s _ (command_effect s (MakeFunded amount currency name script)) refers (λ _.
-    let made : ThreadRecord = record { name = name; script = script } in
-    let more = refers-more s name script refers in
-    let threads = placed s.threads (free_threads s) (Some made) in
-    (funded-more (IsIn threads) s.tickets (free_tickets s) amount (currency_or_base s currency) (target.Thread (next_thread s)) (λ t e. subst (IsIn threads) (thread-same (next_thread s) t e) (in-last s.threads (free_threads s) made)) more.0, more.1, more.2))
-  where
-    thread-same : (a b : ℕ) → target.Thread a ≡ target.Thread b → a ≡ b
-    thread-same a b e = cc
-command-refers s (Kill thread) order refers = other-refers s (event.Command (Kill thread)) (λ e. cc) order refers
-command-refers s other order refers = unrefused RefersIn s (command_refusal s other) (command_effect s other) refers (λ _. refers)
+    aimed : (new.target ≡ old.target) ⊎ MayFund a new.target → Funds (IsIn a.threads) new
+    aimed (inl same) t funds = funded n old at t (sym same ∙ funds)
+    aimed (inr may) t funds = may.1 t funds
+change-refers by s console a (NewThread t) allowed refers = refers-more a t.name t.script refers
+change-refers by s console a (DropThread t) (_, dead, there, serves, none) refers = refers-dropped a t dead none refers
+change-refers by s console a (PutRecord t r) allowed refers = absurd (allowed.mover console)
+change-refers by s console a (PutMutex m x) allowed refers = absurd (allowed console)
+change-refers by s console a c allowed refers = refers
 
 -- ---- events and runs
 
 event-refers : (s : State) (e : Event) → IsInOrder s → RefersIn s → RefersIn (step s e).state
-event-refers s (event.Command command) order refers = command-refers s command order refers
-event-refers s (event.Draw p d) order refers = other-refers s (event.Draw p d) (λ e. cc) order refers
-event-refers s (event.Expire p) order refers = other-refers s (event.Expire p) (λ e. cc) order refers
-event-refers s (event.Trap p ran action) order refers = other-refers s (event.Trap p ran action) (λ e. cc) order refers
-event-refers s (event.Preempt p ticks) order refers = other-refers s (event.Preempt p ticks) (λ e. cc) order refers
-event-refers s (event.Overrun p ticks) order refers = other-refers s (event.Overrun p ticks) (λ e. cc) order refers
-event-refers s (event.Wake t) order refers = other-refers s (event.Wake t) (λ e. cc) order refers
+event-refers s e order refers = at (is_console (by_event s e)) refl
+  where
+    at : (b : Bool) → is_console (by_event s e) ≡ b → RefersIn (step s e).state
+    at true console = kept RefersIn (change-refers (by_event s e) s console) (step-leads s e) refers
+    at false other = other-refers s e (λ console. let never : true ≡ false = sym console ∙ other in cc) order refers
 
 pub event-edges : (s : State) (e : Event) → IsInOrder s → NothingLeadsToRemoved s → NothingLeadsToRemoved (step s e).state
 event-edges s e order none = edges-from (step s e).state (event-refers s e order (refers-from s none))
@@ -646,7 +513,7 @@ abbrev GivesAnother : State → Event → ℕ → Type 0
 GivesAnother s e t = s.limits.reuse ≡ true → thread_given (step s e).reply ≢ Some t
 
 -- the record of a thread that was dead at the start stays
-change-dead : (by : By) (s : State) → ¬ (by ≡ Console) → IsInOrder s → (t : ℕ) (r : Record) → status_of s.records t ≡ Some status.Dead → Keeps by s (λ a. at_number a.records t ≡ Some r)
+change-dead : (by : By) (s : State) → ¬ IsConsole by → IsInOrder s → (t : ℕ) (r : Record) → status_of s.records t ≡ Some status.Dead → Keeps by s (λ a. at_number a.records t ≡ Some r)
 change-dead by s other order t r dead a (NewThread x) allowed is = absurd (other allowed.0)
 change-dead by s other order t r dead a (PutRecord u x) allowed is = from (number-set a.records u x t)
   where
@@ -657,7 +524,7 @@ change-dead by s other order t r dead a (PutRecord u x) allowed is = from (numbe
         absurd (allowed.alive order.queues (ap (status_of s.records) (sym there) ∙ dead))
 change-dead by s other order t r dead a c allowed is = is
 
-other-out : (s : State) (e : Event) (t : ℕ) → ¬ (by_event s e ≡ Console) → IsInOrder s → IsRemoved s t → StaysOut s t (step s e).state
+other-out : (s : State) (e : Event) (t : ℕ) → ¬ IsConsole (by_event s e) → IsInOrder s → IsRemoved s t → StaysOut s t (step s e).state
 other-out s e t other order gone =
     let dead = order.removed t gone in
     let (r, at, is) = record-of s.records t status.Dead dead in

@@ -1,6 +1,6 @@
 -- In a reachable state each thread whose call is queued is among the callers of its port, and each thread that waits to
 -- receive among its receivers.
-use Rattle.lot_laws.proofs.Common.{Action, After, AlreadyOwner, Bool, Call, Command, Drawn, Effect, Ends, Event, Exit, GoesOn, IsAmong, IsInOrder, IsReachable, Kill, Leaves, List, Lock, LockCycle, MakeFunded, MakeThread, Mutex, NoMutex, NoPort, None, NothingToReply, Option, Port, QueuedCall, Receive, Record, Serve, Sizes, Sleep, Some, State, Status, TrapRefusal, Unlock, Yield, after_trap, all-pass, among-append_left, among-append_right, ap, at_number, at_number-map, at_number-suc, before_lock, call, callers_of, change_record, checked-sizes, checked_effect, command_effect, command_refusal, command_step, compensation_for, cond, draw, eqb-true, event_effect, false, filter, first_client, free_threads, inl, inr, is_no_mutex, is_none, killed, killed-dead, killed-either, lends_on_to, lock, map, mutex_at, nat_lt, newborn, not, number-placed, number-set, number-set_same, number-there, of_mutexes, of_ports, opening, opening-order, option_any, option_map, or_parts, owns, placed, port_at, port_without, ready_threads, receive, refl, reply, set_number, slice_get, slice_index, some-injective, started, state_after, status-changed, status-now, status_of, step, step-order, stopped, subst, suc, sym, thread_meant, thread_there, trap, trap_effect, trap_refusal, true, unlock, unrefused, unwrap_or, used_there, value_of, weight_of, winner, with_ticks, without, without_servers, zero, ℕ, [], ◌++◌, ◌+◌, ◌-◌, ◌==◌, ◌∙◌, ◌∷◌, ◌≡◌, ◌⊎◌}
+use Rattle.lot_laws.proofs.Common.{Action, After, AlreadyOwner, Bool, Call, Command, Drawn, Effect, Ends, Event, Exit, GoesOn, IsAmong, IsInOrder, IsReachable, Kill, Leaves, List, Lock, LockCycle, MakeFunded, MakeThread, Mutex, NoMutex, NoPort, None, NothingToReply, Option, Port, QueuedCall, Receive, Record, Serve, Sizes, Some, State, Status, TrapRefusal, Unlock, after_trap, all-pass, among-append_left, among-append_right, ap, at_number, at_number-map, at_number-suc, before_lock, call, callers_of, change_record, checked-sizes, checked_effect, command_effect, command_refusal, command_step, compensation_for, cond, draw, eqb-true, event_effect, false, filter, first_client, free_threads, inl, inr, is_no_mutex, is_none, killed, killed-dead, killed-either, lends_on_to, lock, map, mutex_at, nat_lt, newborn, not, number-placed, number-set, number-set_same, number-there, of_mutexes, of_ports, opening, opening-order, option_any, option_map, or_parts, owns, placed, port_at, port_without, ready_threads, receive, refl, reply, set_number, slice_get, slice_index, some-injective, started, state_after, status-changed, status-now, status_of, step, step-order, stopped, subst, suc, sym, thread_meant, thread_there, trap, trap_effect, trap_refusal, true, unlock, unrefused, unwrap_or, used_there, value_of, weight_of, winner, with_ticks, without, without_servers, zero, ℕ, [], ◌++◌, ◌+◌, ◌-◌, ◌==◌, ◌∙◌, ◌∷◌, ◌≡◌, ◌⊎◌}
 use Rattle.lot_machine.specs.declared.record.Status.TheVariants as status
 use Rattle.lot_machine.specs.declared.trap.Trap.TheVariants.{Reply as ReplyTo}
 use Rattle.lot_machine.specs.declared.event.Event.TheVariants as event
@@ -234,8 +234,6 @@ module _ (finish : After → Record → Record) (leaves : (now : Status) (r : Re
           (keep-change (λ r. record r { status = status.Ready }) s.records s.ports s.limits.mutexes passed (λ r. tt) listed))
 
   effect-listed : (action : Action) → trap_refusal s t action ≡ None → Done (trap_effect s t action)
-  effect-listed Yield allowed = keep-change (finish (Leaves status.Ready)) s.records s.ports s.limits.mutexes t (leaves-stands s.ports status.Ready tt) listed
-  effect-listed (Sleep n) allowed = keep-change (finish (Leaves status.Asleep)) s.records s.ports s.limits.mutexes t (leaves-stands s.ports status.Asleep tt) listed
   effect-listed Exit allowed = keep-change (finish Ends) s.records s.ports s.limits.mutexes t (ends s.ports) listed
   effect-listed (Call port number) allowed = call-listed port number (port-there s port (all-pass ((is_none (at_number s.ports port), NoPort) ∷ []) allowed).0)
   effect-listed (Receive port) allowed =
@@ -252,6 +250,7 @@ module _ (finish : After → Record → Record) (leaves : (now : Status) (r : Re
       ∷ (option_any (λ owner. lends_on_to (without_servers s) owner t) (mutex_at s.mutexes m).owner, LockCycle) ∷ []) allowed in
       lock-listed (before_lock s t m) m (or_parts (is_none (at_number s.mutexes m)) (nat_lt s.limits.mutexes m) passed.0).1
   effect-listed (Unlock m d) allowed = unlock-listed (value_of s) m d
+  effect-listed other allowed = keep-change (finish (trap_effect s t other).after) s.records s.ports s.limits.mutexes t (leaves-stands s.ports _ tt) listed
 
   checked-listed : (action : Action) (o : Option TrapRefusal) → trap_refusal s t action ≡ o → Done (checked_effect s o (trap_effect s t action))
   checked-listed action None allowed = effect-listed action allowed

@@ -107,6 +107,24 @@ meant-thread s (thread_ref.Numbered u) t is = from (thread_at s.threads u) refl 
     from None here e = cc
     from (Some x) here e = let same : u ≡ t = some-injective u t e in (x, ap (thread_at s.threads) (sym same) ∙ here)
 
+pub target-thread : (s : State) (to : TargetRef) (t : ℕ) → target_meant s to ≡ Some (Thread t) → IsThere (thread_at s.threads t)
+target-thread s (target_ref.Named name) t is = meant-thread s (thread_ref.Named name) t (from (currency_named s name) (thread_named s name) is)
+  where
+    from : (o p : Option ℕ) → option_or (option_map Currency o) (option_map Thread p) ≡ Some (Thread t) → p ≡ Some t
+    from (Some c) p is = cc
+    from None (Some u) is = cc
+    from None None is = cc
+target-thread s (target_ref.Currency c) t is = from (currency_meant s (currency_ref.Numbered c)) is
+  where
+    from : (o : Option ℕ) → option_map Currency o ≡ Some (Thread t) → IsThere (thread_at s.threads t)
+    from None e = cc
+    from (Some n) e = cc
+target-thread s (target_ref.Thread u) t is = meant-thread s (thread_ref.Numbered u) t (from (thread_meant s (thread_ref.Numbered u)) is)
+  where
+    from : (o : Option ℕ) → option_map Thread o ≡ Some (Thread t) → o ≡ Some t
+    from None e = cc
+    from (Some n) e = cc
+
 module _ (s : State) (no_cycle : HasNoCycle (funding_of s)) (there : FundsThere (funding_of s)) where
   pub keeps-remove_ticket : (n : ℕ) → IsFunded (record s { tickets = without_ticket s.tickets n })
   keeps-remove_ticket n = (HasNoCycle-without_ticket (funding_of s) n no_cycle, FundsThere-without_ticket (funding_of s) n there)

@@ -6,7 +6,7 @@ use Rattle.lot_machine.specs.declared.ticket.Target.TheVariants.{Thread}
 use Rattle.lot_machine.proofs.Changes.{number-set, place-set}
 use Rattle.lot_machine.proofs.CommandsKept.{all-pass, unrefused}
 use Rattle.lot_machine.proofs.Places.{number-next, place-next}
-use Rattle.lot_machine.proofs.StepChanges.{By, Console, Keeps, by_event, kept, step-leads}
+use Rattle.lot_machine.proofs.StepChanges.{By, IsConsole, Keeps, by_event, kept, step-leads}
 use Rattle.lot_machine.proofs.Tickets.{at_number-suc, flatten-some, some-injective}
 
 -- ---- what has a name
@@ -284,14 +284,14 @@ effect-own s c e own = own
 abbrev HasNamesOf : State → State → Type 0
 HasNamesOf s a = (a.limits ≡ s.limits) × (a.currencies ≡ s.currencies) × (a.threads ≡ s.threads)
 
-change-names : (by : By) (s : State) → ¬ (by ≡ Console) → Keeps by s (HasNamesOf s)
+change-names : (by : By) (s : State) → ¬ IsConsole by → Keeps by s (HasNamesOf s)
 change-names by s other a (NewCurrency name) allowed same = absurd (other allowed)
 change-names by s other a (DropCurrency c) allowed same = absurd (other allowed.0)
 change-names by s other a (NewThread t) allowed same = absurd (other allowed.0)
 change-names by s other a (DropThread t) allowed same = absurd (other allowed.0)
 change-names by s other a c allowed same = same
 
-work-own : (s : State) (e : Event) → ¬ (by_event s e ≡ Console) → AreOwn s → AreOwn (step s e).state
+work-own : (s : State) (e : Event) → ¬ IsConsole (by_event s e) → AreOwn s → AreOwn (step s e).state
 work-own s e other own = moved (step s e).state (kept (HasNamesOf s) (change-names (by_event s e) s other) (step-leads s e) (refl, refl, refl))
   where
     moved : (a : State) → HasNamesOf s a → AreOwn a

@@ -1,11 +1,10 @@
 -- No call is queued at a port while a thread waits to receive there.
-use Rattle.lot_machine.proofs.Common.{Action, Call, Command, Drawn, Event, Exit, HasOneSidedPorts, IsOneSided, Kill, List, Lock, None, Option, Port, PutPort, QueuedCall, Receive, Serve, Sizes, Sleep, Some, State, TrapRefusal, Unlock, Yield, ap, at_number, call, checked_effect, command_effect, command_step, draw, event_effect, filter, inl, inr, map, not, opening, option_map, port_at, port_without, ready_threads, receive, refl, reply, set_number, state_after, step, subst, suc, sym, thread_meant, thread_there, trap_effect, trap_refusal, unwrap_or, weight_of, winner, without, ℕ, [], ◌-◌, ◌==◌, ◌∙◌, ◌∷◌, ◌≡◌, ◌⊎◌}
-use Rattle.lot_machine.specs.declared.trap.Trap.TheVariants.{Reply as ReplyTo}
+use Rattle.lot_machine.proofs.Common.{Action, Call, Command, Drawn, Event, HasOneSidedPorts, IsOneSided, Kill, List, None, Option, Port, PutPort, QueuedCall, Receive, Serve, Sizes, Some, State, TrapRefusal, ap, at_number, call, checked_effect, command_effect, command_step, draw, event_effect, filter, inl, inr, map, not, opening, option_map, port_at, port_without, ready_threads, receive, refl, reply, set_number, state_after, step, subst, suc, sym, thread_meant, thread_there, trap_effect, trap_refusal, unwrap_or, weight_of, winner, without, ℕ, [], ◌-◌, ◌==◌, ◌∙◌, ◌∷◌, ◌≡◌, ◌⊎◌}
 use Rattle.lot_machine.specs.declared.event.Event.TheVariants as event
 use Rattle.lot_machine.proofs.Changes.{number-set}
 use Rattle.lot_machine.proofs.CommandsKept.{unrefused}
 use Rattle.lot_machine.proofs.OrderKept.{number-replicate}
-use Rattle.lot_machine.proofs.StepChanges.{Console, Keeps, kept, command-leads}
+use Rattle.lot_machine.proofs.StepChanges.{By, Console, IsConsole, Keeps, kept, command-leads}
 use Rattle.lot_machine.proofs.Tickets.{some-injective}
 use Rattle.lot_machine.proofs.TrapCycles.{at_number-map}
 
@@ -81,14 +80,14 @@ checked-one s t action (Some refusal) each = each
 -- ---- commands and events
 
 -- the console changes no port
-change-ports : (s : State) → Keeps Console s (λ a. a.ports ≡ s.ports)
-change-ports s a (PutPort p x) allowed same = absurd (allowed refl)
-change-ports s a other allowed same = same
+change-ports : (by : By) (s : State) → IsConsole by → Keeps by s (λ a. a.ports ≡ s.ports)
+change-ports by s console a (PutPort p x) allowed same = absurd (allowed console)
+change-ports by s console a other allowed same = same
 
 -- unless it kills a thread
 command-one : (s : State) (c : Command) → HasOneSidedPorts s → HasOneSidedPorts (command_step s c).state
 command-one s (Kill thread) each = unrefused HasOneSidedPorts s _ (command_effect s (Kill thread)) each (λ e. less-ports (unwrap_or (thread_meant s thread) 0) s.ports each)
-command-one s c each = let same = kept (λ a. a.ports ≡ s.ports) (change-ports s) (command-leads s c) refl in subst Each (sym same) each
+command-one s c each = let same = kept (λ a. a.ports ≡ s.ports) (change-ports (Console c) s refl) (command-leads s c) refl in subst Each (sym same) each
 
 draw-one : (s : State) (p d : ℕ) → HasOneSidedPorts s → HasOneSidedPorts (draw s p d).state
 draw-one s p d each = by (winner (map (weight_of s) (ready_threads s.records)) d) refl

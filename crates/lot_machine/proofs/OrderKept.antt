@@ -1,5 +1,5 @@
 -- A state in order stays so through each event, and is sound.
-use Rattle.lot_machine.proofs.Common.{Action, After, All-nil, AlreadyOwner, BadProcessor, BadTicks, Bool, Busy, Call, Command, DeadThread, Drawn, Effect, Ends, Event, Exit, FundsThere, GoesOn, HasEachOnce, HasNoCycle, HasQueues, IsGap, IsInOrder, IsQueue, IsSound, IsWithinBounds, Kill, Leaves, Lend, LendsTo, List, Lock, LockCycle, Mutex, NoMutex, NoPort, NoThread, Nobody, None, NotAsleep, NotOwner, NotRunning, NothingToReply, Option, Port, QueuedCall, Receive, Record, Serve, Sizes, Sleep, Some, State, Status, Target, ThreadRef, Ticket, TrapRefusal, Unlock, Yield, after_trap, ap, arith, at_number, before_lock, borrower, call, change_record, checked_effect, clients_of, command_effect, command_step, compensation_for, draw, event_effect, false, first_client, funding_of, get_or, get_or_from_slice_get, get_or_past, holders, inl, inr, is_asleep, is_bad_processor, is_dead_in, is_meant_by, is_no_mutex, is_none, is_ready, is_some, issuer_of, killed, left_by, lend_of, lends_on_to, length, map, mutex_at, nat_le, nat_lt, not, numbers, opening, option_and_then, option_any, option_flatten, option_map, or_parts, owns, port_holders, position, position-Some, ready_threads, receive, refl, replicate, reply, serve, slice_get, slice_get_cases, slice_get_within, slice_index, started, state_after, status_of, step, stopped, subst, suc, sym, target_of, thread_at, thread_meant, thread_on, thread_there, trap, trap_effect, trap_refusal, true, unwrap_or, used_there, value_of, wake, weight_of, winner, with_ticks, without_servers, zero, ℕ, [], ◌+◌, ◌-◌, ◌<◌, ◌==◌, ◌^◌, ◌∙◌, ◌∷◌, ◌≡◌, ◌≤◌, ◌⊎◌}
+use Rattle.lot_machine.proofs.Common.{Action, After, All-nil, AlreadyOwner, BadProcessor, BadTicks, Bool, Busy, Call, Command, DeadThread, Drawn, Effect, Ends, Event, Exit, FundsThere, GoesOn, HasEachOnce, HasNoCycle, HasQueues, IsGap, IsInOrder, IsQueue, IsSound, IsWithinBounds, Kill, Lend, LendsTo, List, Lock, LockCycle, Mutex, NoMutex, NoPort, NoThread, Nobody, None, NotAsleep, NotOwner, NotRunning, NothingToReply, Option, Port, QueuedCall, Receive, Record, Serve, Sizes, Some, State, Status, Target, ThreadRef, Ticket, TrapRefusal, Unlock, after_trap, ap, arith, at_number, before_lock, borrower, call, change_record, checked_effect, clients_of, command_effect, command_step, compensation_for, draw, event_effect, false, first_client, funding_of, get_or, get_or_from_slice_get, get_or_past, holders, inl, inr, is_asleep, is_bad_processor, is_dead_in, is_meant_by, is_no_mutex, is_none, is_ready, is_some, issuer_of, killed, left_by, lend_of, lends_on_to, length, map, mutex_at, nat_le, nat_lt, not, numbers, opening, option_and_then, option_any, option_flatten, option_map, or_parts, owns, port_holders, position, position-Some, ready_threads, receive, refl, replicate, reply, serve, slice_get, slice_get_cases, slice_get_within, slice_index, started, state_after, status_of, step, stopped, subst, suc, sym, target_of, thread_at, thread_meant, thread_on, thread_there, trap, trap_effect, trap_refusal, true, unwrap_or, used_there, value_of, wake, weight_of, winner, with_ticks, without_servers, zero, ℕ, [], ◌+◌, ◌-◌, ◌<◌, ◌==◌, ◌^◌, ◌∙◌, ◌∷◌, ◌≡◌, ◌≤◌, ◌⊎◌}
 use Rattle.lot_machine.specs.declared.ticket.Target.TheVariants as target
 use Rattle.lot_machine.specs.declared.record.Thread.{Thread}
 use Rattle.lot_machine.specs.declared.record.Status.TheVariants as status
@@ -11,7 +11,7 @@ use Rattle.lot_machine.proofs.CommandsKept.{unrefused, all-pass}
 use Rattle.lot_machine.proofs.EachOnce.{contains-nothing}
 use Rattle.lot_machine.proofs.RecordsKept.{RunsAlone, apart}
 use Rattle.lot_machine.proofs.Idle.{IsAlive, alive-of, filter-passes, is-ready, is-asleep, there-runs, there-alone, free-of, used-of, used-elsewhere}
-use Rattle.lot_machine.proofs.StepChanges.{By, On, Leads, kept, Apart, Queues, HasAmount, HasRoom, AreRemovedDead, change-apart, change-gone, change-removed, change-room, change-there, change-queues, command-keeps, command-leads, kill-leads, not-dead, draw-leads, stopped-leads, wake-leads, checked-leads, finish-leads, passes, Console, HasGaps, AreRemovedIdle, HasSizesOf, change-sizes, change-idle, change-gaps}
+use Rattle.lot_machine.proofs.StepChanges.{By, On, Leads, kept, Apart, Queues, HasAmount, HasRoom, AreRemovedDead, change-apart, change-gone, change-removed, change-room, change-there, change-queues, command-keeps, command-leads, kill-leads, not-dead, draw-leads, stopped-leads, wake-leads, checked-leads, finish-leads, passes, Console, IsConsole, HasGaps, AreRemovedIdle, HasSizesOf, change-sizes, change-idle, change-gaps}
 use Rattle.lot_machine.proofs.KillKept.{kill-cycle, kill-queues, killed-idle}
 use Rattle.lot_machine.proofs.Queues.{queue-empty, queues-changed, queues-live}
 use Rattle.lot_machine.proofs.TrapQueues.{nowhere-from, stay-queues, call-queues, receive-queues, reply-queues, replied-queues, lock-queues, unlock-queues}
@@ -39,7 +39,7 @@ abbrev KeepsIdle : State → State → Type 0
 KeepsIdle s b = (u : ℕ) → status_of s.records u ≡ Some status.Dead → clients_of s.clients u ≡ [] → clients_of b.clients u ≡ []
 
 -- what isn't the console's leaves what tickets fund
-other-order : {by : By} (s b : State) → ¬ (by ≡ Console) → IsInOrder s → Leads by s b → IsUntangled b → KeepsIdle s b → IsInOrder b
+other-order : {by : By} (s b : State) → ¬ IsConsole by → IsInOrder s → Leads by s b → IsUntangled b → KeepsIdle s b → IsInOrder b
 other-order {by} s b other order leads (no_cycle, queues) idle =
     let same = kept (HasSizesOf s) (change-sizes by s other) leads (refl, refl, refl) in
     frame-order s b order leads no_cycle (kept (λ a. FundsThere (funding_of a)) (change-there by s other) leads order.funds_there) queues
@@ -89,7 +89,7 @@ command-order s (Kill thread) order =
 command-order s c order =
     let leads = command-leads s c in
     let funded = command-keeps s c order.no_cycle order.funds_there in
-    frame-order s (command_step s c).state order leads funded.0 funded.1 (kept Queues (change-queues s order.gaps order.removed) leads order.queues) (kept AreRemovedDead (change-gone s) leads order.removed) (kept AreRemovedIdle (change-idle s order.queues) leads order.idle)
+    frame-order s (command_step s c).state order leads funded.0 funded.1 (kept Queues (change-queues (Console c) s refl order.gaps order.removed) leads order.queues) (kept AreRemovedDead (change-gone (Console c) s refl) leads order.removed) (kept AreRemovedIdle (change-idle (Console c) s refl order.queues) leads order.idle)
 
 -- nor does an event of a processor
 processor-order : (p : ℕ) (s b : State) → IsInOrder s → Leads (On p) s b → IsUntangled b → KeepsIdle s b → IsInOrder b
@@ -178,8 +178,6 @@ module _ (s : State) (order : IsInOrder s) (t p before ticks used : ℕ) (runs :
       (cycle-nobody s (finish after) t nobody order.no_cycle, stay-queues finish (λ st r. refl) s.records s.clients s.ports s.mutexes order.queues t p before runs after)
 
   effect-untangled : (action : Action) → trap_refusal s t action ≡ None → IsUntangled (finished (trap_effect s t action))
-  effect-untangled Yield allowed = nothing-else (Leaves status.Ready) (λ r. refl)
-  effect-untangled (Sleep n) allowed = nothing-else (Leaves status.Asleep) (λ r. refl)
   effect-untangled Exit allowed =
       let gone : State = record s { mutexes = left_by s t } in (
         cycle-nobody gone (finish Ends) t (λ r. refl) (cycle-unserved_each (λ server. server == t) s (port_holders s.limits) order.no_cycle),
@@ -229,6 +227,7 @@ module _ (s : State) (order : IsInOrder s) (t p before ticks used : ℕ) (runs :
       let passed = all-pass ((is_no_mutex s m, NoMutex) ∷ (not (owns s t m), NotOwner) ∷ []) allowed in
       let there = default-of (at_number s.mutexes m) (record { owner = None; waiters = [] }) (or_parts (is_none (at_number s.mutexes m)) (nat_lt s.limits.mutexes m) passed.0).0 in
       (unlock-cycle finish (λ st r. refl) s goes-on order.no_cycle order.queues t p before runs (value_of s) m d, unlock-queues finish (λ st r. refl) s.records s.clients s.ports s.mutexes order.queues t p before runs (value_of s) m d there)
+  effect-untangled other allowed = nothing-else (trap_effect s t other).after (λ r. refl)
 
   checked-untangled : (action : Action) (o : Option TrapRefusal) → trap_refusal s t action ≡ o → IsUntangled (finished (checked_effect s o (trap_effect s t action)))
   checked-untangled action None allowed = effect-untangled action allowed

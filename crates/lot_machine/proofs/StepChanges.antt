@@ -3,6 +3,14 @@
 use Rattle.lot_machine.proofs.Common.{Action, After, Alive, All, All-head, All-push, All-set, All-tail, BadAmount, BadName, BadProcessor, BadTicks, BaseFixed, Bool, Busy, Call, Change, Command, CurrencyRef, Cycle, DeadThread, Drawn, DropCurrency, DropThread, DropTicket, Effect, Ends, Event, Exit, Full, Fund, FundsThere, GoesOn, HasEachOnce, HasFreeGaps, HasNoCycle, HasQueues, IfSome, InUse, IsGap, IsWithinBounds, Kill, Leaves, List, Lock, MakeCurrency, MakeFunded, MakeThread, MakeTicket, Mutex, NameTaken, NewCurrency, NewThread, NewTicket, NoCurrency, NoScript, NoTarget, NoThread, NoTicket, None, NotAsleep, NotFunding, NotRunning, Option, Outcome, Port, PortTrap, PutClients, PutMutex, PutPort, PutRecord, PutTicket, QueuedCall, Receive, Record, RemoveCurrency, RemoveThread, RemoveTicket, RunsApart, Serve, SetTicket, Sleep, Some, State, Status, Target, ThreadRef, Ticket, TrapRefusal, Unfund, Unlock, Yield, after_trap, ap, applied, applied_all, are_threads_full, are_tickets_full, arith, at_number, at_port, backing_currency, before_lock, call, cases_eq, change_each, change_record, checked_effect, clients_of, command_effect, command_step, compensation_for, cond, currency_funded, currency_meant, currency_or_base, draw, drop, ended, event_effect, false, first_client, free_currencies, free_threads, free_tickets, funding_of, given_again, held_by, holder_of, inl, inr, is_asleep, is_bad_amount, is_bad_processor, is_currency, is_cycle, is_dead, is_dead_in, is_dead_thread, is_funding, is_in_use, is_no_script, is_none, is_none_free, is_some, is_taken, is_thread_in_use, is_thread_name, issued_in, killed, leads_back, leb-false, lend_of, lends_lead, lends_on_to, length, length-append, length-set, lock, ltb-false, map, map-set, mutex_at, mutex_without, nat_le, nat_lt, newborn, next_thread, not, of_mutexes, of_ports, option_and_then, option_any, option_flatten, option_map, or_parts, placed, port_at, port_holders, port_without, ready_threads, receive, refl, reissued, released, released_by, remove, reply, retargeted, serve, served_at, set_number, slice_get, slice_get-map, slice_index, slice_set, started, status_of, step, stopped, subst, suc, sym, target_meant, thread_at, thread_meant, thread_on, thread_there, ticket_in, trap_effect, trap_refusal, true, unlock, unserved, unserved_at, unwrap_or, used_by, used_on, used_there, value_of, wake, weight_of, winner, with_server, with_target, with_ticks, without, zero, ℕ, [], ◌&&◌, ◌++◌, ◌+◌, ◌-◌, ◌<◌, ◌==◌, ◌^◌, ◌||◌, ◌∙◌, ◌∷◌, ◌≡◌, ◌≤◌, ◌⊎◌}
 use Rattle.lot_machine.specs.declared.ticket.Target.TheVariants as target
 use Rattle.lot_machine.specs.declared.record.Status.TheVariants as status
+use Rattle.lot_machine.specs.declared.record.Thread.{Thread as ThreadRecord}
+use Rattle.lot_machine.specs.declared.funding.Node.TheVariants as node
+use Rattle.lot_machine.specs.declared.reference.TargetRef.{TargetRef}
+use Rattle.lot_machine.specs.Funding.{edge_count_into}
+use Rattle.lot_machine.specs.Places.{next_place}
+use Rattle.lot_machine.specs.Commands.{with_thread}
+use Rattle.std.proofs.lemmas.Bool.{eqb-false}
+use Rattle.std.specs.Prelude.{◌≢◌}
 use Rattle.lot_machine.specs.declared.trap.Trap.TheVariants.{Reply as ReplyTo}
 use Rattle.lot_machine.specs.declared.command.Command.TheVariants.{List as Listing}
 use Rattle.lot_machine.specs.declared.event.Event.TheVariants as event
@@ -10,12 +18,12 @@ use Rattle.lot_machine.specs.declared.refusal.Refusal.TheVariants.{Funding as Is
 use Rattle.lot_machine.specs.declared.reply.Outcome.TheVariants as outcome
 use Rattle.lot_machine.proofs.Idle.{there-alone, free-of, used-changed, used-of, used-stopped_on, index-holds, IsAlive, nobody-alive, ready-used, receiver-used, caller-used, client-used, waiter-used, there-used, is-dead, is-asleep, alive-of, status-number, ready-alive, receiver-alive, caller-alive, client-alive, waiter-alive, there-alive, used-placed, status-stays}
 use Rattle.lot_machine.proofs.Amounts.{HasNoCycle-amount, FundsThere-amount, place-of}
-use Rattle.lot_machine.proofs.CommandsKept.{IsFunded, unrefused, all-pass, none-of, target-there, keeps-remove_ticket, keeps-unfund, keeps-target, IsThere, some-of, meant-there, meant-thread}
+use Rattle.lot_machine.proofs.CommandsKept.{IsFunded, unrefused, all-pass, none-of, target-there, target-thread, keeps-remove_ticket, keeps-unfund, keeps-target, IsThere, some-of, meant-there, meant-thread}
 use Rattle.lot_machine.proofs.FundingKept.{HasNoCycle-currencies, FundsThere-removed, HasNoCycle-placed_ticket, FundsThere-placed_ticket, FundsThere-placed}
 use Rattle.lot_machine.proofs.LendsKept.{HasNoCycle-lends_placed}
 use Rattle.lot_machine.proofs.Queues.{status-other, FirstIsDead, number-set_same, queues-placed}
 use Rattle.lot_machine.proofs.Tickets.{some-injective, at_number-suc, flatten-some}
-use Rattle.lot_machine.proofs.Changes.{number-set, map-by-sets, number-there}
+use Rattle.lot_machine.proofs.Changes.{number-set, map-by-sets, number-there, place-set, place-set_same}
 use Rattle.lot_machine.proofs.KillKept.{kill-cycle}
 use Rattle.lot_machine.proofs.Killed.{IsAmong, IsHeir, released-why, client-waits, heir-waits}
 use Rattle.lot_machine.proofs.RecordsKept.{RunsAlone, StopsIfLeaves, status-changed, nobody-runs, RunsAlone-stops, RunsApart-changed, RunsApart-placed}
@@ -25,14 +33,22 @@ use Rattle.lot_machine.proofs.EachOnce.{contains-at}
 
 -- ---- changes that are allowed
 
--- who makes a change: the console, the work of a trap, a timer that wakes threads, the thread that an event of this processor names, or
+-- who makes a change: the console by this command, the work of a trap, a timer that wakes threads, the thread that an event of this processor names, or
 -- the console when it kills this thread, if it exists
 pub data By : Type 0 where
-  Console : By
+  Console : Command → By
   Work : By
   Timer : By
   On : ℕ → By
   Kills : Option ℕ → By
+
+-- it is a command that kills nobody
+abbrev pub is_console : By → Bool
+is_console (Console c) = true
+is_console other = false
+
+abbrev pub IsConsole : By → Type 0
+IsConsole by = is_console by ≡ true
 
 -- it leaves what threads have won and used
 abbrev pub IsTallied : By → Type 0
@@ -55,7 +71,7 @@ HasAmount place = IfSome place (λ t. t.amount < 2 ^ 32)
 -- the work of a trap, and a kill, leave what it has won and used.
 pub record Moves (by : By) (s a : State) (t : ℕ) (r : Record) : Type 0 where
   pub there : (old : Record) × (at_number a.records t ≡ Some old)
-  pub mover : ¬ (by ≡ Console)
+  pub mover : ¬ IsConsole by
   pub tally : IsTallied by → r ≡ record there.0 { status = r.status; compensation = r.compensation; delivered = r.delivered }
   pub alive : Queues s → IsAlive s.records t
   pub elsewhere : Queues s → (p : ℕ) → ¬ (by ≡ On p) → ¬ (by ≡ Kills (Some t)) → used_by a.records p t ≡ None
@@ -73,18 +89,47 @@ AreRemovedIdle s = (t : ℕ) → at_number s.threads t ≡ Some None → clients
 abbrev pub HasGaps : State → Type 0
 HasGaps s = s.limits.reuse ≡ true → HasFreeGaps s
 
+-- an amount of 32 bits, not 0
+abbrev pub IsAmount : ℕ → Type 0
+IsAmount amount = (0 < amount) × (amount < 2 ^ 32)
+
+-- the thread wasn't removed
+abbrev pub IsIn : List (Option ThreadRecord) → ℕ → Type 0
+IsIn threads t = ¬ (at_number threads t ≡ Some None)
+
+-- a ticket may fund it: it isn't base, and a thread wasn't removed
+abbrev pub MayFund : State → Target → Type 0
+MayFund a to = (to ≢ target.Currency 0) × ((t : ℕ) → to ≡ target.Thread t → IsIn a.threads t)
+
+-- A ticket replaces the ticket with this number. It has the same issuer, and the same target or another that it may fund; only
+-- `settkt` of the ticket gives it another amount.
+pub record Replaces (by : By) (a : State) (n : ℕ) (old new : Ticket) : Type 0 where
+  pub issuer : new.issuer ≡ old.issuer
+  pub aim : (new.target ≡ old.target) ⊎ MayFund a new.target
+  pub amount : (new.amount ≡ old.amount) ⊎ ((by ≡ Console (SetTicket n new.amount)) × IsAmount new.amount)
+
+-- a ticket is there, and what comes in its place replaces it
+abbrev pub Puts : By → State → ℕ → Option Ticket → Type 0
+Puts by a n place = (old : Ticket) × (new : Ticket) × (ticket_in a.tickets n ≡ Some old) × (place ≡ Some new) × Replaces by a n old new
+
 -- The change is allowed in the second state, which the event has reached from the first. The console alone changes tickets and
--- currencies and makes and removes threads, and it changes nothing else unless it kills a thread. What it removes or replaces is there.
+-- currencies and makes and removes threads, and it changes nothing else unless it kills a thread. What it removes or replaces is there,
+-- and nothing refers to what it removes.
 abbrev pub Allowed : By → State → State → Change → Type 0
-Allowed by s a (NewTicket t) = (by ≡ Console) × (t.amount < 2 ^ 32) × (free_tickets a ≡ [] → length a.tickets < a.limits.tickets) × (currency_funded t.target ≡ None)
-Allowed by s a (DropTicket n) = (by ≡ Console) × IsThere (ticket_in a.tickets n)
-Allowed by s a (PutTicket n place) = (by ≡ Console) × (All HasAmount a.tickets → HasAmount place) × (IsFunded a → IsFunded (record a { tickets = set_number a.tickets n place })) × IsThere (ticket_in a.tickets n) × IsThere place
-Allowed by s a (NewCurrency name) = by ≡ Console
-Allowed by s a (DropCurrency c) = (by ≡ Console) × (length (backing_currency (funding_of a) c) ≡ 0) × IsThere (option_flatten (slice_get a.currencies c))
-Allowed by s a (NewThread t) = (by ≡ Console) × (HasGaps s → AreRemovedDead s → FirstIsDead a.records (free_threads a))
-Allowed by s a (DropThread t) = (by ≡ Console) × (status_of a.records t ≡ Some status.Dead) × IsThere (thread_at a.threads t) × (Queues s → clients_of a.clients t ≡ [])
+Allowed by s a (NewTicket t) =
+    IsConsole by × IsAmount t.amount × (free_tickets a ≡ [] → length a.tickets < a.limits.tickets) × (currency_funded t.target ≡ None)
+    × IsThere (option_flatten (slice_get a.currencies t.issuer)) × MayFund a t.target
+Allowed by s a (DropTicket n) = IsConsole by × (by ≡ Console (RemoveTicket n)) × IsThere (ticket_in a.tickets n)
+Allowed by s a (PutTicket n place) = IsConsole by × (IsFunded a → IsFunded (record a { tickets = set_number a.tickets n place })) × Puts by a n place
+Allowed by s a (NewCurrency name) = IsConsole by
+Allowed by s a (DropCurrency c) =
+    IsConsole by × (length (backing_currency (funding_of a) c) ≡ 0) × IsThere (option_flatten (slice_get a.currencies c)) × (length (issued_in (funding_of a) c) ≡ 0)
+Allowed by s a (NewThread t) = IsConsole by × (HasGaps s → AreRemovedDead s → FirstIsDead a.records (free_threads a))
+Allowed by s a (DropThread t) =
+    IsConsole by × (status_of a.records t ≡ Some status.Dead) × IsThere (thread_at a.threads t) × (Queues s → clients_of a.clients t ≡ [])
+    × (edge_count_into (funding_of a) (node.Thread t) ≡ 0)
 Allowed by s a (PutRecord t r) = Moves by s a t r
-Allowed by s a other = ¬ (by ≡ Console)
+Allowed by s a other = ¬ IsConsole by
 
 -- allowed changes lead from the first state to the second
 pub data Leads (by : By) (s : State) : State → Type 0 where
@@ -115,7 +160,7 @@ working p s b leads = kept (Leads (On p) s) (λ a c allowed before. Then before 
     not-on : (q : ℕ) → ¬ (Work ≡ On q)
     not-on q e = cc
 
-    not-console : ¬ (Work ≡ Console)
+    not-console : ¬ IsConsole Work
     not-console e = cc
 
     may : (a : State) (c : Change) → Allowed Work s a c → Allowed (On p) s a c
@@ -137,7 +182,7 @@ abbrev LeavesTally : (Record → Record) → Type 0
 LeavesTally change = (r : Record) → change r ≡ record r { status = (change r).status; compensation = (change r).compensation; delivered = (change r).delivered }
 
 -- one thread's record changes, if it is there
-put : {by : By} {s : State} (a : State) (change : Record → Record) (t : ℕ) → ¬ (by ≡ Console) → (IsTallied by → LeavesTally change) → Leads by s a
+put : {by : By} {s : State} (a : State) (change : Record → Record) (t : ℕ) → ¬ IsConsole by → (IsTallied by → LeavesTally change) → Leads by s a
     → (Queues s → IsAlive s.records t) → (Queues s → (p : ℕ) → ¬ (by ≡ On p) → ¬ (by ≡ Kills (Some t)) → used_by a.records p t ≡ None)
     → ((r : Record) (p used : ℕ) → (change r).status ≡ status.Running p used → (by ≡ On p) × (Apart s → RunsAlone a.records p t))
     → Leads by s (record a { records = change_record change a.records t })
@@ -168,7 +213,7 @@ change-apart by s apart a other allowed runs = runs
 pub change-alone : (s : State) (p t : ℕ) → Keeps Work s (λ a. RunsAlone a.records p t)
 change-alone s p t a (NewThread x) allowed alone = absurd (differs allowed.0)
   where
-    differs : Work ≡ Console → ⊥
+    differs : ¬ IsConsole Work
     differs e = cc
 change-alone s p t a (PutRecord u r) allowed alone =
     subst (λ (rs : List Record). RunsAlone rs p t) (put-changes a.records u r allowed.there.0 allowed.there.1) (RunsAlone-stops (λ _. r) a.records u p t (λ x q used is. differs q (allowed.runs q used is).0) alone)
@@ -178,7 +223,7 @@ change-alone s p t a (PutRecord u r) allowed alone =
 change-alone s p t a other allowed alone = alone
 
 -- a thread that isn't killed has used as many ticks on a processor that isn't the event's as at the start
-pub change-used : (by : By) (s : State) (p u : ℕ) → Queues s → (by ≡ Console → HasGaps s × AreRemovedDead s) → ¬ (by ≡ On p) → ¬ (by ≡ Kills (Some u))
+pub change-used : (by : By) (s : State) (p u : ℕ) → Queues s → (IsConsole by → HasGaps s × AreRemovedDead s) → ¬ (by ≡ On p) → ¬ (by ≡ Kills (Some u))
     → Keeps by s (λ a. used_by a.records p u ≡ used_by s.records p u)
 change-used by s p u queues gaps other spared a (NewThread t) (console, first) same = let (free, dead) = gaps console in used-placed a.records (free_threads a) newborn p refl (first free dead) u ∙ same
 change-used by s p u queues gaps other spared a (PutRecord t r) allowed same = from (cases_eq u t)
@@ -211,12 +256,29 @@ change-ran by s p u used other a (PutRecord t r) allowed ran runs = from (status
     from (inr (at, (x, there, new))) = absurd (other (allowed.runs p used (some-injective r.status (status.Running p used) (sym new ∙ now))).0)
 change-ran by s p u used other a c allowed ran runs = ran runs
 
+-- the amount of a ticket that is looked up
+amount-at : (tickets : List (Option Ticket)) (i : ℕ) → All HasAmount tickets → IfSome (slice_get tickets i) HasAmount
+amount-at [] i all = tt
+amount-at (t ∷ ts) zero all = All-head HasAmount t ts all
+amount-at (t ∷ ts) (suc i) all = amount-at ts i (All-tail HasAmount t ts all)
+
+amount-in : (tickets : List (Option Ticket)) (n : ℕ) → All HasAmount tickets → HasAmount (ticket_in tickets n)
+amount-in tickets n all = at (n == 0)
+  where
+    found : (o : Option (Option Ticket)) → IfSome o HasAmount → HasAmount (option_flatten o)
+    found None is = tt
+    found (Some place) is = is
+
+    at : (b : Bool) → HasAmount (option_flatten (cond {A = Option (Option Ticket)} b None (slice_get tickets (n - 1))))
+    at true = tt
+    at false = found (slice_get tickets (n - 1)) (amount-at tickets (n - 1) all)
+
 -- tickets stay within their bounds
 abbrev pub HasRoom : State → Type 0
 HasRoom s = All HasAmount s.tickets × (length s.tickets ≤ s.limits.tickets) × IsWithinBounds s.limits
 
 pub change-room : (by : By) (s : State) → Keeps by s HasRoom
-change-room by s a (NewTicket t) (console, small, free, target) (amounts, few, bounds) = (amounts-placed (free_tickets a), few-placed (length-placed a.tickets (free_tickets a) (Some t)), bounds)
+change-room by s a (NewTicket t) (console, (some, small), free, _, _, _) (amounts, few, bounds) = (amounts-placed (free_tickets a), few-placed (length-placed a.tickets (free_tickets a) (Some t)), bounds)
   where
     amounts-placed : (places : List ℕ) → All HasAmount (placed a.tickets places (Some t))
     amounts-placed [] = All-push HasAmount a.tickets (Some t) amounts small
@@ -227,7 +289,12 @@ change-room by s a (NewTicket t) (console, small, free, target) (amounts, few, b
     few-placed (inl (none, one_more)) = omega (arith, free none, one_more)
     few-placed (inr same) = omega (arith, few, same)
 change-room by s a (DropTicket n) allowed (amounts, few, bounds) = (All-set HasAmount a.tickets (n - 1) None tt amounts, omega (arith, few, length-set a.tickets (n - 1) None), bounds)
-change-room by s a (PutTicket n place) allowed (amounts, few, bounds) = (All-set HasAmount a.tickets (n - 1) place (allowed.1 amounts) amounts, omega (arith, few, length-set a.tickets (n - 1) place), bounds)
+change-room by s a (PutTicket n place) (console, funded, (old, new, is, now, replaces)) (amounts, few, bounds) =
+    (All-set HasAmount a.tickets (n - 1) place (subst HasAmount (sym now) (small replaces.amount)) amounts, omega (arith, few, length-set a.tickets (n - 1) place), bounds)
+  where
+    small : (new.amount ≡ old.amount) ⊎ ((by ≡ Console (SetTicket n new.amount)) × IsAmount new.amount) → new.amount < 2 ^ 32
+    small (inl same) = let was : old.amount < 2 ^ 32 = subst HasAmount is (amount-in a.tickets n amounts) in omega (arith, same, was)
+    small (inr (sets, good)) = good.1
 change-room by s a other allowed room = room
 
 -- the same limits, and as many more records as threads
@@ -248,14 +315,14 @@ change-grown by s a other allowed grown = grown
 abbrev pub HasSizesOf : State → State → Type 0
 HasSizesOf s after = (after.limits ≡ s.limits) × (length after.records ≡ length s.records) × (after.threads ≡ s.threads)
 
-pub change-sizes : (by : By) (s : State) → ¬ (by ≡ Console) → Keeps by s (HasSizesOf s)
+pub change-sizes : (by : By) (s : State) → ¬ IsConsole by → Keeps by s (HasSizesOf s)
 change-sizes by s other a (NewThread t) allowed sizes = absurd (other allowed.0)
 change-sizes by s other a (DropThread t) allowed sizes = absurd (other allowed.0)
 change-sizes by s other a (PutRecord t r) allowed (limits, records, threads) = (limits, length-set a.records (t - 1) r ∙ records, threads)
 change-sizes by s other a c allowed sizes = sizes
 
 -- what isn't the console's removes nobody, and wakes nobody who was dead at the start
-pub change-removed : (by : By) (s : State) → ¬ (by ≡ Console) → Queues s → AreRemovedDead s → Keeps by s (λ a. (a.threads ≡ s.threads) × AreRemovedDead a)
+pub change-removed : (by : By) (s : State) → ¬ IsConsole by → Queues s → AreRemovedDead s → Keeps by s (λ a. (a.threads ≡ s.threads) × AreRemovedDead a)
 change-removed by s other queues before a (NewThread t) allowed removed = absurd (other allowed.0)
 change-removed by s other queues before a (DropThread t) allowed removed = absurd (other allowed.0)
 change-removed by s other queues before a (PutRecord t r) allowed (same, dead) = (same, λ u gone. from u gone (status-changed (λ _. r) a.records t u))
@@ -269,8 +336,8 @@ change-removed by s other queues before a (PutRecord t r) allowed (same, dead) =
 change-removed by s other queues before a c allowed removed = removed
 
 -- what the console removes is dead, and what it makes is there
-pub change-gone : (s : State) → Keeps Console s AreRemovedDead
-change-gone s a (NewThread t) allowed removed u gone = from (number-placed a.threads (free_threads a) (Some t) u)
+pub change-gone : (by : By) (s : State) → IsConsole by → Keeps by s AreRemovedDead
+change-gone by s console a (NewThread t) allowed removed u gone = from (number-placed a.threads (free_threads a) (Some t) u)
   where
     -- a gap isn't in the first free place, where the new thread is
     elsewhere : (free : List ℕ) → at_number a.threads u ≡ Some None → at_number (placed a.threads free (Some t)) u ≡ Some None → ¬ (slice_get free 0 ≡ Some (u - 1))
@@ -286,17 +353,17 @@ change-gone s a (NewThread t) allowed removed u gone = from (number-placed a.thr
         → status_of (placed a.records (free_threads a) newborn) u ≡ Some status.Dead
     from (inl same) = let before : at_number a.threads u ≡ Some None = sym same ∙ gone in status-stays a.records (free_threads a) newborn u status.Dead (elsewhere (free_threads a) before gone) (removed u before)
     from (inr made) = let differs : Some (Some t) ≡ Some None = sym made ∙ gone in cc
-change-gone s a (DropThread t) (console, dead, there, serves) removed u gone = from (number-set a.threads t None u)
+change-gone by s console a (DropThread t) (_, dead, _, _, _) removed u gone = from (number-set a.threads t None u)
   where
     from : (at_number (set_number a.threads t None) u ≡ at_number a.threads u) ⊎ ((u ≡ suc (t - 1)) × (at_number (set_number a.threads t None) u ≡ Some None)) → status_of a.records u ≡ Some status.Dead
     from (inl same) = removed u (sym same ∙ gone)
     from (inr (at, new)) = let there : u ≡ t = at ∙ status-number a.records t status.Dead dead in ap (status_of a.records) there ∙ dead
-change-gone s a (PutRecord t r) allowed removed u gone = absurd (allowed.mover refl)
-change-gone s a other allowed removed u gone = removed u gone
+change-gone by s console a (PutRecord t r) allowed removed u gone = absurd (allowed.mover console)
+change-gone by s console a other allowed removed u gone = removed u gone
 
 -- what the console removes serves nobody
-pub change-idle : (s : State) → Queues s → Keeps Console s AreRemovedIdle
-change-idle s queues a (NewThread t) allowed idle u gone = from (number-placed a.threads (free_threads a) (Some t) u) (number-placed a.clients (free_threads a) [] u)
+pub change-idle : (by : By) (s : State) → IsConsole by → Queues s → Keeps by s AreRemovedIdle
+change-idle by s console queues a (NewThread t) allowed idle u gone = from (number-placed a.threads (free_threads a) (Some t) u) (number-placed a.clients (free_threads a) [] u)
   where
     from : (at_number (placed a.threads (free_threads a) (Some t)) u ≡ at_number a.threads u) ⊎ (at_number (placed a.threads (free_threads a) (Some t)) u ≡ Some (Some t))
         → (at_number (placed a.clients (free_threads a) []) u ≡ at_number a.clients u) ⊎ (at_number (placed a.clients (free_threads a) []) u ≡ Some [])
@@ -304,16 +371,16 @@ change-idle s queues a (NewThread t) allowed idle u gone = from (number-placed a
     from (inr made) _ = let differs : Some (Some t) ≡ Some None = sym made ∙ gone in cc
     from (inl was) (inl same) = ap (λ o. unwrap_or o []) same ∙ idle u (sym was ∙ gone)
     from (inl was) (inr new) = ap (λ o. unwrap_or o []) new
-change-idle s queues a (DropThread t) (console, dead, there, serves) idle u gone = from (number-set a.threads t None u)
+change-idle by s console queues a (DropThread t) (_, dead, there, serves, _) idle u gone = from (number-set a.threads t None u)
   where
     from : (at_number (set_number a.threads t None) u ≡ at_number a.threads u) ⊎ ((u ≡ suc (t - 1)) × (at_number (set_number a.threads t None) u ≡ Some None)) → clients_of a.clients u ≡ []
     from (inl same) = idle u (sym same ∙ gone)
     from (inr (at, new)) = let here : u ≡ t = at ∙ status-number a.records t status.Dead dead in ap (clients_of a.clients) here ∙ serves queues
-change-idle s queues a (PutClients t x) allowed idle u gone = absurd (allowed refl)
-change-idle s queues a other allowed idle u gone = idle u gone
+change-idle by s console queues a (PutClients t x) allowed idle u gone = absurd (allowed console)
+change-idle by s console queues a other allowed idle u gone = idle u gone
 
 -- the same tickets
-pub change-tickets : (by : By) (s : State) → ¬ (by ≡ Console) → Keeps by s (λ a. a.tickets ≡ s.tickets)
+pub change-tickets : (by : By) (s : State) → ¬ IsConsole by → Keeps by s (λ a. a.tickets ≡ s.tickets)
 change-tickets by s other a (NewTicket t) allowed same = absurd (other allowed.0)
 change-tickets by s other a (DropTicket n) allowed same = absurd (other allowed.0)
 change-tickets by s other a (PutTicket n place) allowed same = absurd (other allowed.0)
@@ -322,7 +389,7 @@ change-tickets by s other a c allowed same = same
 -- ---- a kill
 
 -- the waits of some threads end, if each of them waited for a server or a mutex at the start
-release-leads : {by : By} {s : State} (threads : List ℕ) (a : State) → ¬ (by ≡ Console) → Leads by s a
+release-leads : {by : By} {s : State} (threads : List ℕ) (a : State) → ¬ IsConsole by → Leads by s a
     → ((place u : ℕ) → slice_get threads place ≡ Some u → Queues s → (now : Status) × (status_of s.records u ≡ Some now) × ¬ (now ≡ status.Dead) × ((p : ℕ) → used_on p now ≡ None))
     → Leads by s (record a { records = change_each released a.records threads })
 release-leads [] a other leads waits = leads
@@ -336,13 +403,13 @@ release-leads {by} {s} (t ∷ ts) a other leads waits =
     (λ place u e. waits (suc place) u e)
 
 -- each port changes, and each mutex, and the clients of each thread
-ports-lead : {by : By} {s : State} (f : Port → Port) (a : State) → ¬ (by ≡ Console) → Leads by s a → Leads by s (record a { ports = map f a.ports })
+ports-lead : {by : By} {s : State} (f : Port → Port) (a : State) → ¬ IsConsole by → Leads by s a → Leads by s (record a { ports = map f a.ports })
 ports-lead {by} {s} f a other leads = map-by-sets (λ ports. Leads by s (record a { ports = ports })) f (λ ports n port before. Then before (PutPort n port) other) [] a.ports leads
 
-mutexes-lead : {by : By} {s : State} (f : Mutex → Mutex) (a : State) → ¬ (by ≡ Console) → Leads by s a → Leads by s (record a { mutexes = map f a.mutexes })
+mutexes-lead : {by : By} {s : State} (f : Mutex → Mutex) (a : State) → ¬ IsConsole by → Leads by s a → Leads by s (record a { mutexes = map f a.mutexes })
 mutexes-lead {by} {s} f a other leads = map-by-sets (λ mutexes. Leads by s (record a { mutexes = mutexes })) f (λ mutexes n mutex before. Then before (PutMutex n mutex) other) [] a.mutexes leads
 
-clients-lead : {by : By} {s : State} (f : List ℕ → List ℕ) (a : State) → ¬ (by ≡ Console) → Leads by s a → Leads by s (record a { clients = map f a.clients })
+clients-lead : {by : By} {s : State} (f : List ℕ → List ℕ) (a : State) → ¬ IsConsole by → Leads by s a → Leads by s (record a { clients = map f a.clients })
 clients-lead {by} {s} f a other leads = map-by-sets (λ clients. Leads by s (record a { clients = clients })) f (λ clients n threads before. Then before (PutClients n threads) other) [] a.clients leads
 
 -- a thread that isn't dead is killed
@@ -356,7 +423,7 @@ kill-leads s t alive =
     let unserved : Leads (Kills (Some t)) s c = Then (clients-lead (without t) b not-console ends) (PutClients t []) not-console in
     mutexes-lead (mutex_without t) (record c { ports = map (port_without t) s.ports }) not-console (ports-lead (port_without t) c not-console unserved)
   where
-    not-console : ¬ (Kills (Some t) ≡ Console)
+    not-console : ¬ IsConsole (Kills (Some t))
     not-console e = cc
 
     waits : (place u : ℕ) → slice_get (released_by s t) place ≡ Some u → Queues s → (now : Status) × (status_of s.records u ≡ Some now) × ¬ (now ≡ status.Dead) × ((p : ℕ) → used_on p now ≡ None)
@@ -372,31 +439,56 @@ not-dead s t alive dead = let passes : is_dead_in s t ≡ true = ap (option_any 
 
 -- ---- commands
 
-amount-at : (tickets : List (Option Ticket)) (i : ℕ) → All HasAmount tickets → IfSome (slice_get tickets i) HasAmount
-amount-at [] i all = tt
-amount-at (t ∷ ts) zero all = All-head HasAmount t ts all
-amount-at (t ∷ ts) (suc i) all = amount-at ts i (All-tail HasAmount t ts all)
+-- an amount that is checked
+amount-of : (amount : ℕ) → is_bad_amount amount ≡ false → IsAmount amount
+amount-of amount good =
+    let parts = or_parts (amount == 0) (nat_lt 4294967295 amount) good in
+    let some : ¬ (amount ≡ 0) = eqb-false amount 0 parts.0 in
+    (omega (arith, some), omega (arith, ltb-false 4294967295 amount parts.1))
 
-amount-in : (tickets : List (Option Ticket)) (n : ℕ) (to : Target) → All HasAmount tickets → HasAmount (option_map (retargeted to) (ticket_in tickets n))
-amount-in tickets n to all = at (n == 0)
+-- there is room for a ticket
+room-of : (s : State) → are_tickets_full s ≡ false → free_tickets s ≡ [] → length s.tickets < s.limits.tickets
+room-of s free all_used = leb-false s.limits.tickets (length s.tickets) (sym (ap (λ places. is_none_free places && nat_le s.limits.tickets (length s.tickets)) all_used) ∙ free)
+
+-- a new thread is there
+in-last : (threads : List (Option ThreadRecord)) (free : List ℕ) (x : ThreadRecord) → IsIn (placed threads free (Some x)) (next_place threads free + 1)
+in-last threads free x gone =
+    let next : next_place threads free + 1 ≡ suc (next_place threads free) = omega arith in
+    last free (sym (at_number-suc (placed threads free (Some x)) (next_place threads free)) ∙ ap (at_number (placed threads free (Some x))) (sym next) ∙ gone)
   where
-    found : (o : Option (Option Ticket)) → IfSome o HasAmount → HasAmount (option_map (retargeted to) (option_flatten o))
-    found None is = tt
-    found (Some None) is = tt
-    found (Some (Some t)) is = is
+    pushed : (ts : List (Option ThreadRecord)) → slice_get (ts ++ Some x ∷ []) (length ts) ≡ Some (Some x)
+    pushed [] = refl
+    pushed (u ∷ us) = pushed us
 
-    at : (b : Bool) → HasAmount (option_map (retargeted to) (option_flatten (cond {A = Option (Option Ticket)} b None (slice_get tickets (n - 1)))))
-    at true = tt
-    at false = found (slice_get tickets (n - 1)) (amount-at tickets (n - 1) all)
+    put : (place : ℕ) (o : Option (Option ThreadRecord)) → slice_get threads place ≡ o → slice_get (slice_set threads place (Some x)) place ≡ Some None → ⊥
+    put place (Some y) is none = let never : Some (Some x) ≡ Some None = sym (place-set_same threads place (Some x) y is) ∙ none in cc
+    put place None is none = from (place-set threads place (Some x) place)
+      where
+        from : (slice_get (slice_set threads place (Some x)) place ≡ slice_get threads place) ⊎ ((place ≡ place) × (slice_get (slice_set threads place (Some x)) place ≡ Some (Some x))) → ⊥
+        from (inl same) = let never : None ≡ Some None = sym is ∙ sym same ∙ none in cc
+        from (inr (at, made)) = let never : Some (Some x) ≡ Some None = sym made ∙ none in cc
 
--- a ticket's amount is checked, and that there is room for it
-may-issue : (s : State) (amount : ℕ) (to : Target) → is_bad_amount amount ≡ false → are_tickets_full s ≡ false → currency_funded to ≡ None
-    → ◌≡◌ {A = By} Console Console × (amount < 2 ^ 32) × (free_tickets s ≡ [] → length s.tickets < s.limits.tickets) × (currency_funded to ≡ None)
-may-issue s amount to good free none =
-    (refl, omega (arith, ltb-false 4294967295 amount (or_parts (amount == 0) (nat_lt 4294967295 amount) good).1), λ all_used. leb-false s.limits.tickets (length s.tickets) (few all_used), none)
+    last : (places : List ℕ) → slice_get (placed threads places (Some x)) (next_place threads places) ≡ Some None → ⊥
+    last [] none = let never : Some (Some x) ≡ Some None = sym (pushed threads) ∙ none in cc
+    last (place ∷ places) none = put place (slice_get threads place) refl none
+
+-- a thread that is there wasn't removed
+there-in : (threads : List (Option ThreadRecord)) (t : ℕ) → IsThere (thread_at threads t) → IsIn threads t
+there-in threads t (x, is) gone = let never : Some x ≡ None = sym is ∙ ap option_flatten gone in cc
+
+-- a target that is meant and isn't base
+may-fund : (s : State) (to : TargetRef) → option_any (is_currency 0) (target_meant s to) ≡ false → MayFund s (unwrap_or (target_meant s to) target.Unfunded)
+may-fund s to user = by (target_meant s to) refl user
   where
-    few : free_tickets s ≡ [] → nat_le s.limits.tickets (length s.tickets) ≡ false
-    few all_used = sym (ap (λ places. is_none_free places && nat_le s.limits.tickets (length s.tickets)) all_used) ∙ free
+    by : (o : Option Target) → target_meant s to ≡ o → option_any (is_currency 0) o ≡ false → MayFund s (unwrap_or o target.Unfunded)
+    by None is not_base = (λ same. cc, λ t e. cc)
+    by (Some aim) is not_base = (λ same. let never : false ≡ true = sym not_base ∙ ap (is_currency 0) same in cc, λ t e. there-in s.threads t (target-thread s to t (is ∙ ap Some e)))
+
+-- a ticket that is there is aimed at what it may fund
+aims : {by : By} (s : State) (n : ℕ) (to : Target) → is_none (ticket_in s.tickets n) ≡ false → MayFund s to → Puts by s n (option_map (retargeted to) (ticket_in s.tickets n))
+aims s n to named may =
+    let (t, is) = some-of (ticket_in s.tickets n) named in
+    (t, retargeted to t, is, ap (option_map (retargeted to)) is, record { issuer = refl; aim = inr may; amount = inl refl })
 
 -- a thread that leaves a free place is dead
 pub free-dead : (s : State) → HasGaps s → AreRemovedDead s → FirstIsDead s.records (free_threads s)
@@ -426,11 +518,6 @@ thread-there s thread some = by (some-of (thread_meant s thread) some)
     by : IsThere (thread_meant s thread) → IsThere (thread_at s.threads (unwrap_or (thread_meant s thread) 0))
     by (t, is) = subst (λ (o : Option ℕ). IsThere (thread_at s.threads (unwrap_or o 0))) (sym is) (meant-thread s thread t is)
 
--- what becomes of a ticket that is there is there
-still-there : (change : Ticket → Ticket) (o : Option Ticket) → is_none o ≡ false → IsThere (option_map change o)
-still-there change None some = cc
-still-there change (Some t) some = (change t, refl)
-
 -- these places are given again, if numbers are
 given : (s : State) → s.limits.reuse ≡ true → (free : List ℕ) → given_again s free ≡ free
 given s on free = ap (λ b. cond {A = List ℕ} b free []) on
@@ -440,42 +527,42 @@ place-there : {A : Type 0} (xs : List (Option A)) (n : ℕ) (x : A) → option_f
 place-there xs zero x is = cc
 place-there xs (suc i) x is = let place : suc i - 1 ≡ i = omega arith in ap (slice_get xs) place ∙ sym (at_number-suc xs i) ∙ flatten-some (at_number xs (suc i)) x is
 
-amount-small : (o : Option Ticket) (amount : ℕ) → is_bad_amount amount ≡ false → HasAmount (option_map (reissued amount) o)
-amount-small None amount good = tt
-amount-small (Some t) amount good = omega (arith, ltb-false 4294967295 amount (or_parts (amount == 0) (nat_lt 4294967295 amount) good).1)
-
 -- whose changes a command's are
 abbrev pub by_command : State → Command → By
 by_command s (Kill thread) = Kills (thread_meant s thread)
-by_command s other = Console
+by_command s other = Console other
 
 -- Each command: its checks say that its changes are allowed.
 pub command-leads : (s : State) (c : Command) → Leads (by_command s c) s (command_step s c).state
 command-leads s (MakeTicket amount currency) =
-    unrefused (Leads Console s) s _ (command_effect s (MakeTicket amount currency)) Stays (λ e.
+    unrefused (Leads (Console _) s) s _ (command_effect s (MakeTicket amount currency)) Stays (λ e.
     let passed = all-pass ((is_bad_amount amount, BadAmount) ∷ (is_none (currency_meant s currency), NoCurrency) ∷ (are_tickets_full s, Full) ∷ []) e in
-    Then Stays (NewTicket (record { amount = amount; issuer = currency_or_base s currency; target = target.Unfunded })) (may-issue s amount target.Unfunded passed.0 passed.1.1.0 refl))
+    Then Stays (NewTicket (record { amount = amount; issuer = currency_or_base s currency; target = target.Unfunded }))
+    (refl, amount-of amount passed.0, room-of s passed.1.1.0, refl, currency-there s currency passed.1.0, (λ same. cc, λ t e. cc)))
 command-leads s (RemoveTicket n) =
-    unrefused (Leads Console s) s _ (command_effect s (RemoveTicket n)) Stays (λ e.
+    unrefused (Leads (Console _) s) s _ (command_effect s (RemoveTicket n)) Stays (λ e.
     let passed = all-pass ((is_none (ticket_in s.tickets n), NoTicket) ∷ (option_any is_funding (ticket_in s.tickets n), IsFunding) ∷ []) e in
-    Then Stays (DropTicket n) (refl, some-of (ticket_in s.tickets n) passed.0))
-command-leads s (MakeCurrency name) = unrefused (Leads Console s) s _ (command_effect s (MakeCurrency name)) Stays (λ _. Then Stays (NewCurrency name) refl)
+    Then Stays (DropTicket n) (refl, refl, some-of (ticket_in s.tickets n) passed.0))
+command-leads s (MakeCurrency name) = unrefused (Leads (Console _) s) s _ (command_effect s (MakeCurrency name)) Stays (λ _. Then Stays (NewCurrency name) refl)
 command-leads s (RemoveCurrency currency) =
-    unrefused (Leads Console s) s _ (command_effect s (RemoveCurrency currency)) Stays (λ e.
+    unrefused (Leads (Console _) s) s _ (command_effect s (RemoveCurrency currency)) Stays (λ e.
     let passed = all-pass ((is_none (currency_meant s currency), NoCurrency) ∷ (option_any (λ c. c == 0) (currency_meant s currency), BaseFixed)
     ∷ (option_any (is_in_use s) (currency_meant s currency), InUse) ∷ []) e in
-    Then Stays (DropCurrency (currency_or_base s currency)) (refl, unused (currency_meant s currency) passed.0 passed.1.1.0, currency-there s currency passed.0))
+    let (issues, backs) = unused (currency_meant s currency) passed.0 passed.1.1.0 in
+    Then Stays (DropCurrency (currency_or_base s currency)) (refl, backs, currency-there s currency passed.0, issues))
   where
-    unused : (o : Option ℕ) → is_none o ≡ false → option_any (is_in_use s) o ≡ false → length (backing_currency (funding_of s) (unwrap_or o 0)) ≡ 0
+    unused : (o : Option ℕ) → is_none o ≡ false → option_any (is_in_use s) o ≡ false → (length (issued_in (funding_of s) (unwrap_or o 0)) ≡ 0) × (length (backing_currency (funding_of s) (unwrap_or o 0)) ≡ 0)
     unused None named not_used = cc
-    unused (Some c) named not_used = none-of (backing_currency (funding_of s) c) (or_parts (nat_lt 0 (length (issued_in (funding_of s) c))) _ not_used).1
+    unused (Some c) named not_used =
+        let parts = or_parts (nat_lt 0 (length (issued_in (funding_of s) c))) (nat_lt 0 (length (backing_currency (funding_of s) c))) not_used in
+        (none-of (issued_in (funding_of s) c) parts.0, none-of (backing_currency (funding_of s) c) parts.1)
 command-leads s (Fund n to_fund) =
-    unrefused (Leads Console s) s _ (command_effect s (Fund n to_fund)) Stays (λ e.
+    unrefused (Leads (Console _) s) s _ (command_effect s (Fund n to_fund)) Stays (λ e.
     let passed = all-pass ((is_none (ticket_in s.tickets n), NoTicket) ∷ (is_none (target_meant s to_fund), NoTarget)
     ∷ (option_any (is_currency 0) (target_meant s to_fund), BaseFixed) ∷ (option_any (is_dead_thread s) (target_meant s to_fund), DeadThread)
     ∷ (option_any is_funding (ticket_in s.tickets n), IsFunding) ∷ (option_any (is_cycle s n) (target_meant s to_fund), Cycle) ∷ []) e in
     let to = unwrap_or (target_meant s to_fund) target.Unfunded in
-    Then Stays (PutTicket n (option_map (retargeted to) (ticket_in s.tickets n))) (refl, amount-in s.tickets n to, funds (target_meant s to_fund) refl passed.1.0 passed.1.1.1.1.1.0 passed.0, some-of (ticket_in s.tickets n) passed.0, still-there (retargeted to) (ticket_in s.tickets n) passed.0))
+    Then Stays (PutTicket n (option_map (retargeted to) (ticket_in s.tickets n))) (refl, funds (target_meant s to_fund) refl passed.1.0 passed.1.1.1.1.1.0 passed.0, aims s n to passed.0 (may-fund s to_fund passed.1.1.0)))
   where
     funds : (o : Option Target) → target_meant s to_fund ≡ o → is_none o ≡ false → option_any (is_cycle s n) o ≡ false → is_none (ticket_in s.tickets n) ≡ false
         → IsFunded s → IsFunded (record s { tickets = with_target s.tickets n (unwrap_or o target.Unfunded) })
@@ -483,28 +570,29 @@ command-leads s (Fund n to_fund) =
     funds (Some to) is named apart here (no_cycle, there) =
         keeps-target s no_cycle there n to (λ c same. (apart, target-there s to_fund c (is ∙ ap Some same))) here
 command-leads s (Unfund n) =
-    unrefused (Leads Console s) s _ (command_effect s (Unfund n)) Stays (λ e.
+    unrefused (Leads (Console _) s) s _ (command_effect s (Unfund n)) Stays (λ e.
     let passed = all-pass ((is_none (ticket_in s.tickets n), NoTicket) ∷ (not (option_any is_funding (ticket_in s.tickets n)), NotFunding) ∷ []) e in
     Then Stays (PutTicket n (option_map (retargeted target.Unfunded) (ticket_in s.tickets n)))
-    (refl, amount-in s.tickets n target.Unfunded, λ (cycle, there). keeps-unfund s cycle there n target.Unfunded refl, some-of (ticket_in s.tickets n) passed.0, still-there (retargeted target.Unfunded) (ticket_in s.tickets n) passed.0))
+    (refl, λ (cycle, there). keeps-unfund s cycle there n target.Unfunded refl, aims s n target.Unfunded passed.0 (λ same. cc, λ t e. cc)))
 command-leads s (SetTicket n amount) =
-    unrefused (Leads Console s) s _ (command_effect s (SetTicket n amount)) Stays (λ e.
+    unrefused (Leads (Console _) s) s _ (command_effect s (SetTicket n amount)) Stays (λ e.
     let passed = all-pass ((is_bad_amount amount, BadAmount) ∷ (is_none (ticket_in s.tickets n), NoTicket) ∷ []) e in
     let (place, there) = place-of s.tickets n passed.1.0 in
+    let (t, is) = some-of (ticket_in s.tickets n) passed.1.0 in
     Then Stays (PutTicket n (option_map (reissued amount) (ticket_in s.tickets n))) (
       refl,
-      λ _. amount-small (ticket_in s.tickets n) amount passed.0,
       λ (cycle, funds). (HasNoCycle-amount (funding_of s) n amount place there cycle, FundsThere-amount (funding_of s) n amount place there funds),
-      some-of (ticket_in s.tickets n) passed.1.0,
-      still-there (reissued amount) (ticket_in s.tickets n) passed.1.0,
+      (t, reissued amount t, is, ap (option_map (reissued amount)) is, record { issuer = refl; aim = inl refl; amount = inr (refl, amount-of amount passed.0) }),
     ))
 command-leads s (MakeThread name script) =
-    unrefused (Leads Console s) s _ (command_effect s (MakeThread name script)) Stays (λ _. Then Stays (NewThread (record { name = name; script = script })) (refl, free-dead s))
+    unrefused (Leads (Console _) s) s _ (command_effect s (MakeThread name script)) Stays (λ _. Then Stays (NewThread (record { name = name; script = script })) (refl, free-dead s))
 command-leads s (RemoveThread thread) =
-    unrefused (Leads Console s) s _ (command_effect s (RemoveThread thread)) Stays (λ e.
+    unrefused (Leads (Console _) s) s _ (command_effect s (RemoveThread thread)) Stays (λ e.
     let passed = all-pass ((is_none (thread_meant s thread), NoThread) ∷ (not (option_any (is_dead_in s) (thread_meant s thread)), Alive)
     ∷ (option_any (is_thread_in_use s) (thread_meant s thread), InUse) ∷ []) e in
-    Then Stays (DropThread (unwrap_or (thread_meant s thread) 0)) (refl, ended (thread_meant s thread) passed.0 passed.1.0, thread-there s thread passed.0, λ queues. unserved (thread_meant s thread) passed.0 passed.1.1.0))
+    let used = passed.1.1.0 in
+    Then Stays (DropThread (unwrap_or (thread_meant s thread) 0))
+    (refl, ended (thread_meant s thread) passed.0 passed.1.0, thread-there s thread passed.0, λ queues. unserved (thread_meant s thread) passed.0 used, unaimed (thread_meant s thread) passed.0 used))
   where
     holds : (b : Bool) → not b ≡ false → b ≡ true
     holds true e = refl
@@ -513,6 +601,12 @@ command-leads s (RemoveThread thread) =
     unserved : (o : Option ℕ) → is_none o ≡ false → option_any (is_thread_in_use s) o ≡ false → clients_of s.clients (unwrap_or o 0) ≡ []
     unserved None named unused = cc
     unserved (Some t) named unused = unused-serves s t unused
+
+    unaimed : (o : Option ℕ) → is_none o ≡ false → option_any (is_thread_in_use s) o ≡ false → edge_count_into (funding_of s) (node.Thread (unwrap_or o 0)) ≡ 0
+    unaimed None named unused = cc
+    unaimed (Some t) named unused =
+        let count = edge_count_into (funding_of s) (node.Thread t) in
+        omega (arith, ltb-false 0 count (or_parts (nat_lt 0 count) (is_some (first_client s.clients t)) unused).0)
 
     ended : (o : Option ℕ) → is_none o ≡ false → not (option_any (is_dead_in s) o) ≡ false → status_of s.records (unwrap_or o 0) ≡ Some status.Dead
     ended None named alive = cc
@@ -526,39 +620,45 @@ command-leads s (Kill thread) =
     at None named alive = cc
     at (Some t) named alive = kill-leads s t (not-dead s t alive)
 command-leads s (MakeFunded amount currency name script) =
-    unrefused (Leads Console s) s _ (command_effect s (MakeFunded amount currency name script)) Stays (λ e.
+    unrefused (Leads (Console _) s) s _ (command_effect s (MakeFunded amount currency name script)) Stays (λ e.
     let passed = all-pass ((is_bad_amount amount, BadAmount) ∷ (is_none (currency_meant s currency), NoCurrency) ∷ (not (is_thread_name s.limits name), BadName)
     ∷ (is_taken s name, NameTaken) ∷ (is_no_script s script, NoScript) ∷ (are_tickets_full s || are_threads_full s, Full) ∷ []) e in
     let to = target.Thread (next_thread s) in
     Then (Then Stays (NewThread (record { name = name; script = script })) (refl, free-dead s))
     (NewTicket (record { amount = amount; issuer = currency_or_base s currency; target = to }))
-    (may-issue s amount to passed.0 (or_parts (are_tickets_full s) (are_threads_full s) passed.1.1.1.1.1.0).0 refl))
+    (refl, amount-of amount passed.0, room-of s (or_parts (are_tickets_full s) (are_threads_full s) passed.1.1.1.1.1.0).0, refl, currency-there s currency passed.1.0, (λ same. cc, λ t e. made t (thread-same (next_thread s) t e))))
+  where
+    thread-same : (a b : ℕ) → target.Thread a ≡ target.Thread b → a ≡ b
+    thread-same a b e = cc
+
+    made : (t : ℕ) → next_thread s ≡ t → IsIn (with_thread s name script).threads t
+    made t same = subst (IsIn (with_thread s name script).threads) same (in-last s.threads (free_threads s) (record { name = name; script = script }))
 command-leads s (Listing kind) = Stays
 
 -- nothing makes a cycle, and tickets fund only currencies that are there
-pub change-funded : (s : State) → Keeps Console s IsFunded
-change-funded s a (NewTicket t) (console, small, room, none) (no_cycle, there) =
+pub change-funded : (by : By) (s : State) → IsConsole by → Keeps by s IsFunded
+change-funded by s console a (NewTicket t) (_, amount, room, none, _, _) (no_cycle, there) =
     (HasNoCycle-placed_ticket (funding_of a) (free_tickets a) t none no_cycle, FundsThere-placed_ticket (funding_of a) (free_tickets a) t none there)
-change-funded s a (DropTicket n) allowed (no_cycle, there) = keeps-remove_ticket a no_cycle there n
-change-funded s a (PutTicket n place) allowed funded = allowed.2 funded
-change-funded s a (NewCurrency name) allowed (no_cycle, there) = (
+change-funded by s console a (DropTicket n) allowed (no_cycle, there) = keeps-remove_ticket a no_cycle there n
+change-funded by s console a (PutTicket n place) (_, keeps, puts) funded = keeps funded
+change-funded by s console a (NewCurrency name) allowed (no_cycle, there) = (
   HasNoCycle-currencies (funding_of a) (map is_some (placed a.currencies (free_currencies a) (Some name))) no_cycle,
   subst (λ xs. FundsThere (record (funding_of a) { currencies = xs })) (sym (map-placed is_some a.currencies (free_currencies a) (Some name))) (FundsThere-placed (funding_of a) (free_currencies a) there),
 )
-change-funded s a (DropCurrency c) (console, unused, _) (no_cycle, there) = (
+change-funded by s console a (DropCurrency c) (_, unused, _, _) (no_cycle, there) = (
   HasNoCycle-currencies (funding_of a) (map is_some (slice_set a.currencies c None)) no_cycle,
   subst (λ xs. FundsThere (record (funding_of a) { currencies = xs })) (sym (map-set is_some a.currencies c None)) (FundsThere-removed (funding_of a) c unused there),
 )
-change-funded s a (NewThread t) allowed (no_cycle, there) =
+change-funded by s console a (NewThread t) allowed (no_cycle, there) =
     (subst (λ xs. HasNoCycle (record (funding_of a) { lends = xs })) (sym (map-placed (λ (r : Record). lend_of a.limits r.status) a.records (free_threads a) newborn)) (HasNoCycle-lends_placed (funding_of a) (free_threads a) no_cycle), there)
-change-funded s a (DropThread t) allowed funded = funded
-change-funded s a (PutRecord t r) allowed funded = absurd (allowed.mover refl)
-change-funded s a (PutClients t x) allowed funded = absurd (allowed refl)
-change-funded s a (PutPort t x) allowed funded = absurd (allowed refl)
-change-funded s a (PutMutex t x) allowed funded = absurd (allowed refl)
+change-funded by s console a (DropThread t) allowed funded = funded
+change-funded by s console a (PutRecord t r) allowed funded = absurd (allowed.mover console)
+change-funded by s console a (PutClients t x) allowed funded = absurd (allowed console)
+change-funded by s console a (PutPort t x) allowed funded = absurd (allowed console)
+change-funded by s console a (PutMutex t x) allowed funded = absurd (allowed console)
 
 -- what isn't the console's leaves tickets and currencies
-pub change-there : (by : By) (s : State) → ¬ (by ≡ Console) → Keeps by s (λ a. FundsThere (funding_of a))
+pub change-there : (by : By) (s : State) → ¬ IsConsole by → Keeps by s (λ a. FundsThere (funding_of a))
 change-there by s other a (NewTicket t) allowed there = absurd (other allowed.0)
 change-there by s other a (DropTicket n) allowed there = absurd (other allowed.0)
 change-there by s other a (PutTicket n place) allowed there = absurd (other allowed.0)
@@ -568,13 +668,13 @@ change-there by s other a (NewThread t) allowed there = absurd (other allowed.0)
 change-there by s other a c allowed there = there
 
 -- those who wait stand where their statuses say
-pub change-queues : (s : State) → HasGaps s → AreRemovedDead s → Keeps Console s Queues
-change-queues s gaps removed a (NewThread t) allowed queues = queues-placed a.records a.clients a.ports a.mutexes queues (free_threads a) newborn (allowed.1 gaps removed)
-change-queues s gaps removed a (PutRecord t r) allowed queues = absurd (allowed.mover refl)
-change-queues s gaps removed a (PutClients t x) allowed queues = absurd (allowed refl)
-change-queues s gaps removed a (PutPort t x) allowed queues = absurd (allowed refl)
-change-queues s gaps removed a (PutMutex t x) allowed queues = absurd (allowed refl)
-change-queues s gaps removed a other allowed queues = queues
+pub change-queues : (by : By) (s : State) → IsConsole by → HasGaps s → AreRemovedDead s → Keeps by s Queues
+change-queues by s console gaps removed a (NewThread t) allowed queues = queues-placed a.records a.clients a.ports a.mutexes queues (free_threads a) newborn (allowed.1 gaps removed)
+change-queues by s console gaps removed a (PutRecord t r) allowed queues = absurd (allowed.mover console)
+change-queues by s console gaps removed a (PutClients t x) allowed queues = absurd (allowed console)
+change-queues by s console gaps removed a (PutPort t x) allowed queues = absurd (allowed console)
+change-queues by s console gaps removed a (PutMutex t x) allowed queues = absurd (allowed console)
+change-queues by s console gaps removed a other allowed queues = queues
 
 -- gaps are free if numbers are given again
 pub change-gaps : (by : By) (s : State) → Keeps by s HasGaps
@@ -582,11 +682,11 @@ change-gaps by s a (NewTicket t) allowed gaps on = let are = gaps on in record {
   where
     now : a.limits.reuse ≡ true → HasEachOnce (drop 1 (free_tickets a)) (IsGap (placed a.tickets (free_tickets a) (Some t)))
     now on = subst (λ free. HasEachOnce (drop 1 free) (IsGap (placed a.tickets free (Some t)))) (sym (given a on a.freed.tickets)) (gaps-placed a.tickets a.freed.tickets t (gaps on).tickets)
-change-gaps by s a (DropTicket n) (console, there) gaps on = let are = gaps on in record { tickets = now on there; currencies = are.currencies; threads = are.threads }
+change-gaps by s a (DropTicket n) (console, removes, there) gaps on = let are = gaps on in record { tickets = now on there; currencies = are.currencies; threads = are.threads }
   where
     now : a.limits.reuse ≡ true → IsThere (ticket_in a.tickets n) → HasEachOnce (given_again a ((n - 1) ∷ a.freed.tickets)) (IsGap (set_number a.tickets n None))
     now on (t, is) = subst (λ free. HasEachOnce free (IsGap (set_number a.tickets n None))) (sym (given a on ((n - 1) ∷ a.freed.tickets))) (gaps-removed a.tickets a.freed.tickets (n - 1) t (place-there a.tickets n t is) (gaps on).tickets)
-change-gaps by s a (PutTicket n place) (console, small, funded, (t, is), (u, now)) gaps on =
+change-gaps by s a (PutTicket n place) (console, funded, (t, u, is, now, _)) gaps on =
     let are = gaps on in
     record {
       tickets = subst (λ x. HasEachOnce a.freed.tickets (IsGap (set_number a.tickets n x))) (sym now) (gaps-replaced a.tickets a.freed.tickets (n - 1) t u (place-there a.tickets n t is) are.tickets);
@@ -597,7 +697,7 @@ change-gaps by s a (NewCurrency name) allowed gaps on = let are = gaps on in rec
   where
     now : a.limits.reuse ≡ true → HasEachOnce (drop 1 (free_currencies a)) (IsGap (placed a.currencies (free_currencies a) (Some name)))
     now on = subst (λ free. HasEachOnce (drop 1 free) (IsGap (placed a.currencies free (Some name)))) (sym (given a on a.freed.currencies)) (gaps-placed a.currencies a.freed.currencies name (gaps on).currencies)
-change-gaps by s a (DropCurrency c) (console, unused, there) gaps on = let are = gaps on in record { tickets = are.tickets; currencies = now on there; threads = are.threads }
+change-gaps by s a (DropCurrency c) (console, unused, there, _) gaps on = let are = gaps on in record { tickets = are.tickets; currencies = now on there; threads = are.threads }
   where
     now : a.limits.reuse ≡ true → IsThere (option_flatten (slice_get a.currencies c)) → HasEachOnce (given_again a (c ∷ a.freed.currencies)) (IsGap (slice_set a.currencies c None))
     now on (name, is) =
@@ -606,7 +706,7 @@ change-gaps by s a (NewThread t) allowed gaps on = let are = gaps on in record {
   where
     now : a.limits.reuse ≡ true → HasEachOnce (drop 1 (free_threads a)) (IsGap (placed a.threads (free_threads a) (Some t)))
     now on = subst (λ free. HasEachOnce (drop 1 free) (IsGap (placed a.threads free (Some t)))) (sym (given a on a.freed.threads)) (gaps-placed a.threads a.freed.threads t (gaps on).threads)
-change-gaps by s a (DropThread t) (console, dead, there, serves) gaps on = let are = gaps on in record { tickets = are.tickets; currencies = are.currencies; threads = now on there }
+change-gaps by s a (DropThread t) (console, dead, there, _, _) gaps on = let are = gaps on in record { tickets = are.tickets; currencies = are.currencies; threads = now on there }
   where
     now : a.limits.reuse ≡ true → IsThere (thread_at a.threads t) → HasEachOnce (given_again a ((t - 1) ∷ a.freed.threads)) (IsGap (set_number a.threads t None))
     now on (x, is) = subst (λ free. HasEachOnce free (IsGap (set_number a.threads t None))) (sym (given a on ((t - 1) ∷ a.freed.threads))) (gaps-removed a.threads a.freed.threads (t - 1) x (place-there a.threads t x is) (gaps on).threads)
@@ -619,7 +719,7 @@ change-gaps by s a (PutMutex t x) allowed gaps on = let are = gaps on in record 
 pub command-keeps : (s : State) (c : Command) → HasNoCycle (funding_of s) → FundsThere (funding_of s)
     → HasNoCycle (funding_of (command_step s c).state) × FundsThere (funding_of (command_step s c).state)
 command-keeps s (Kill thread) no_cycle there = unrefused IsFunded s _ (command_effect s (Kill thread)) (no_cycle, there) (λ _. (kill-cycle s (unwrap_or (thread_meant s thread) 0) no_cycle, there))
-command-keeps s c no_cycle there = kept IsFunded (change-funded s) (command-leads s c) (no_cycle, there)
+command-keeps s c no_cycle there = kept IsFunded (change-funded (Console c) s refl) (command-leads s c) (no_cycle, there)
 
 -- ---- what traps do besides
 
@@ -680,7 +780,7 @@ unlock-leads s value m d = at (mutex_at s.mutexes m).waiters refl
         rw is (Then woken (PutMutex m (record { owner = Some passed; waiters = remove (w ∷ ws) place })) (λ e. cc), ready-stops)
 
 -- a port gets this server, or none
-server-leads : {by : By} {s : State} (a : State) (port : ℕ) (server : Option ℕ) → ¬ (by ≡ Console) → Leads by s a → Leads by s (record a { mutexes = with_server a.limits a.mutexes port server })
+server-leads : {by : By} {s : State} (a : State) (port : ℕ) (server : Option ℕ) → ¬ IsConsole by → Leads by s a → Leads by s (record a { mutexes = with_server a.limits a.mutexes port server })
 server-leads {by} {s} a port server other leads = at a.limits.queued_lend
   where
     at : (b : Bool) → Leads by s (record a { mutexes = cond b (set_number a.mutexes (holder_of a.limits port) (held_by server)) a.mutexes })
@@ -688,7 +788,7 @@ server-leads {by} {s} a port server other leads = at a.limits.queued_lend
     at false = leads
 
 -- holders lose their owners that pass a test
-unserved-leads : {by : By} {s : State} (test : ℕ → Bool) (a : State) (ns : List ℕ) → ¬ (by ≡ Console) → Leads by s a → Leads by s (record a { mutexes = unserved test a.mutexes ns })
+unserved-leads : {by : By} {s : State} (test : ℕ → Bool) (a : State) (ns : List ℕ) → ¬ IsConsole by → Leads by s a → Leads by s (record a { mutexes = unserved test a.mutexes ns })
 unserved-leads test a [] other leads = leads
 unserved-leads {by} {s} test a (n ∷ ns) other leads = unserved-leads test (record a { mutexes = unserved_at test a.mutexes n }) ns other (at (option_any test (mutex_at a.mutexes n).owner))
   where

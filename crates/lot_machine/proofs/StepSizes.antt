@@ -1,7 +1,7 @@
 -- The number of a state's threads after an event, their names and scripts, and its limits.
 use Rattle.lot_machine.proofs.Common.{Action, Command, Event, List, None, Option, Record, Some, State, TrapRefusal, arith, at_number, change_each, change_record, checked_effect, command_step, ended, killed, length, length-set, processor_of, refl, released, released_by, step, trap_effect, ℕ, [], ◌-◌, ◌∙◌, ◌∷◌, ◌≡◌}
 use Rattle.lot_machine.specs.declared.event.Event.TheVariants as event
-use Rattle.lot_machine.proofs.StepChanges.{HasSizesOf, HasGrownFrom, Console, Work, kept, change-grown, change-sizes, change-tickets, checked-leads, by_event, step-leads}
+use Rattle.lot_machine.proofs.StepChanges.{HasSizesOf, HasGrownFrom, IsConsole, Work, kept, change-grown, change-sizes, change-tickets, checked-leads, by_event, step-leads}
 
 -- a change of a thread's record
 pub change-length : (change : Record → Record) (records : List Record) (t : ℕ) → length (change_record change records t) ≡ length records
@@ -25,7 +25,7 @@ pub checked-sizes : (s : State) (t : ℕ) (action : Action) (o : Option TrapRefu
 checked-sizes s t action o = kept (HasSizesOf s) (change-sizes Work s (λ e. cc)) (checked-leads s t action o).0 (refl, refl, refl)
 
 -- an event of a processor is not the console's
-not-console : (s : State) (e : Event) (q : ℕ) → processor_of e ≡ Some q → ¬ (by_event s e ≡ Console)
+not-console : (s : State) (e : Event) (q : ℕ) → processor_of e ≡ Some q → ¬ IsConsole (by_event s e)
 not-console s (event.Command command) q on is = cc
 not-console s (event.Draw p d) q on is = cc
 not-console s (event.Expire p) q on is = cc
@@ -35,11 +35,11 @@ not-console s (event.Overrun p ticks) q on is = cc
 not-console s (event.Wake t) q on is = cc
 
 -- an event that isn't the console's makes no thread, and leaves the limits
-pub other-sizes : (s : State) (e : Event) → ¬ (by_event s e ≡ Console) → HasSizesOf s (step s e).state
+pub other-sizes : (s : State) (e : Event) → ¬ IsConsole (by_event s e) → HasSizesOf s (step s e).state
 other-sizes s e other = kept (HasSizesOf s) (change-sizes (by_event s e) s other) (step-leads s e) (refl, refl, refl)
 
 -- and the tickets
-pub other-tickets : (s : State) (e : Event) → ¬ (by_event s e ≡ Console) → (step s e).state.tickets ≡ s.tickets
+pub other-tickets : (s : State) (e : Event) → ¬ IsConsole (by_event s e) → (step s e).state.tickets ≡ s.tickets
 other-tickets s e other = kept (λ a. a.tickets ≡ s.tickets) (change-tickets (by_event s e) s other) (step-leads s e) refl
 
 pub step-sizes : (s : State) (e : Event) (q : ℕ) → processor_of e ≡ Some q → HasSizesOf s (step s e).state

@@ -1,6 +1,7 @@
 -- The new threads and currencies of a turn: no count falls, and the reply tells each new currency.
-use Rattle.lot_playback.proofs.Common.{Answered, Answers, By, Command, Console, Currencies, DropCurrency, Event, Keeps, List, MakeCurrency, NewCurrency, None, Option, Refusal, RemoveCurrency, Reply, Sharers, Some, State, Step, Threads, ap, arith, by_event, command_effect, command_refusal, command_step, count_in, currency_or_base, eq-eqb, free_currencies, kept, length, length-append, length-set, makes_currency, next_place, placed, refl, step, step-grown, step-leads, true, unless_refused, ℕ, [], ◌+◌, ◌<◌, ◌==◌, ◌∙◌, ◌∷◌, ◌≡◌, ◌≤◌}
+use Rattle.lot_playback.proofs.Common.{Answered, Answers, By, Command, Currencies, DropCurrency, Event, Keeps, List, MakeCurrency, NewCurrency, None, Option, Refusal, RemoveCurrency, Reply, Sharers, Some, State, Step, Threads, ap, arith, by_event, command_effect, command_refusal, command_step, count_in, currency_or_base, eq-eqb, free_currencies, kept, length, length-append, length-set, makes_currency, next_place, placed, refl, step, step-grown, step-leads, true, unless_refused, ℕ, [], ◌+◌, ◌<◌, ◌==◌, ◌∙◌, ◌∷◌, ◌≡◌, ◌≤◌}
 use Rattle.lot_machine.specs.declared.event.Event.TheVariants as event
+use Rattle.lot_machine.proofs.StepChanges.{IsConsole}
 
 -- there are no fewer currencies, and the reply tells each new one
 record Tells (s : State) (next : Step) : Type 0 where
@@ -32,12 +33,12 @@ command-tells s (RemoveCurrency currency) =
 command-tells s other = unless-tells s (command_refusal s other) (command_effect s other) (same-tells s (command_effect s other) refl)
 
 -- only the console changes the currencies
-change-currencies : (by : By) (s : State) → ¬ (by ≡ Console) → Keeps by s (λ a. a.currencies ≡ s.currencies)
+change-currencies : (by : By) (s : State) → ¬ IsConsole by → Keeps by s (λ a. a.currencies ≡ s.currencies)
 change-currencies by s other a (NewCurrency name) allowed same = absurd (other allowed)
 change-currencies by s other a (DropCurrency c) allowed same = absurd (other allowed.0)
 change-currencies by s other a c allowed same = same
 
-other-tells : (s : State) (e : Event) → ¬ (by_event s e ≡ Console) → Tells s (step s e)
+other-tells : (s : State) (e : Event) → ¬ IsConsole (by_event s e) → Tells s (step s e)
 other-tells s e other =
     same-tells s (step s e) (ap length (kept (λ a. a.currencies ≡ s.currencies) (change-currencies (by_event s e) s other) (step-leads s e) refl))
 

@@ -13,18 +13,8 @@ unless-ran s p (Some why) next ran = tt
 
 -- a command runs no thread
 command-ran : (s : State) (p : ℕ) (c : Command) → RanOn s p (command_effect s c).reply
-command-ran s p (command.MakeTicket amount currency) = tt
-command-ran s p (command.RemoveTicket n) = tt
-command-ran s p (command.MakeCurrency name) = tt
-command-ran s p (command.RemoveCurrency currency) = tt
-command-ran s p (command.Fund n to) = tt
-command-ran s p (command.Unfund n) = tt
-command-ran s p (command.SetTicket n amount) = tt
-command-ran s p (command.MakeThread name script) = tt
-command-ran s p (command.RemoveThread thread) = tt
-command-ran s p (command.Kill thread) = tt
-command-ran s p (command.MakeFunded amount currency name script) = tt
 command-ran s p (command.List kind) = tt
+command-ran s p other = tt
 
 draw-ran : (s : State) (p d : ℕ) → RanOn s p (draw s p d).reply
 draw-ran s p d = at (winner (map (weight_of s) (ready_threads s.records)) d) refl

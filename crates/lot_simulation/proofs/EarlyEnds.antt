@@ -23,14 +23,14 @@ module _ (program : Program) where
   ended-by m none = rw none refl
 
   -- so its report is that of its whole time, and no more
-  pub report-whole : is_stopped program (last_moment program) ≡ false → length (timed_turns program) < timed_room → timed_report program ≡ timed_report_of (last_moment program) (end_of program) (timed_turns program)
+  pub report-whole : is_stopped program (last_moment program) ≡ false → length (timed_turns program) < timed_room → timed_report program ≡ timed_report_of program (last_moment program) (end_of program) (timed_turns program)
   report-whole goes few =
       let m = last_moment program in
       let none = none-follows m goes (none-due timed_room (opening_moment program) few) in
       let made = length (timed_turns program) in
-      ap (λ o. timed_report_of m (ended_at program m) (timed_turns program) ++ early_text (option_map (λ (due : Due). record { time = m.time; end = end_of program; turns = made }) o)) none
-      ∙ append-nil (timed_report_of m (ended_at program m) (timed_turns program))
-      ∙ ap (λ n. timed_report_of m n (timed_turns program)) (ended-by m none)
+      ap (λ o. timed_report_of program m (ended_at program m) (timed_turns program) ++ early_text (option_map (λ (due : Due). record { time = m.time; end = end_of program; turns = made }) o)) none
+      ∙ append-nil (timed_report_of program m (ended_at program m) (timed_turns program))
+      ∙ ap (λ n. timed_report_of program m n (timed_turns program)) (ended-by m none)
 
   -- ---- strict plays
 

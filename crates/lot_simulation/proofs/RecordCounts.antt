@@ -2,6 +2,7 @@
 use Rattle.lot_simulation.proofs.Common.{Action, ActorTurn, After, Answered, BadProcessor, BadTicks, Bool, By, Command, Console, Drawn, Ends, Event, GoesOn, IsBetween, IsInOrder, IsTallied, IsWithinBounds, Keeps, Kill, Kills, Leaves, List, NewThread, None, NotRunning, Option, Program, PutRecord, Record, Refusal, ScriptTrap, Sizes, Slice, Some, State, Status, Step, ThreadRef, TrapRefusal, TurnMade, Work, World, actor_event, after_trap, all-pass, ap, arith, at_number, at_number-suc, beside, change_record, checked-leads, checked-sizes, checked_effect, command-leads, command_step, cond, console_turn, count_in, draw, event_effect, event_of_slice, expire, false, found-runs, free_threads, get_or, get_or-le-sum_by, get_or-map, get_or_from_slice_get, if◌then◌else◌, is_bad_processor, is_none, kept, length, ltb-false, map, map-set, min-eq_left, nat_le, nat_lt, newborn, next_name, number_of, numbered, opening, opening-order, opening_world, placed, processor_event, processor_turn, quanta_in, ready_threads, refl, resolved, saturated, set, set-get_or, set_number, slice_get, slice_get_within, slice_index, slice_on, slice_set, some-of, started, step, step-limits, step-order, subst, suc, sum, sum-map, sum_by, sum_by-cons, sum_by-set, sum_by_push, sym, system_after, system_answers, system_run, system_turn, thread_meant, thread_on, thread_there, ticks_in, total_of, trap, trap_effect, trap_refusal, true, turns_made, unless_refused, used_there, wake, weight_of, winner, with_ticks, zero, ℕ, [], ⊤, ◌*◌, ◌++◌, ◌+◌, ◌-◌, ◌<◌, ◌==◌, ◌^◌, ◌∙◌, ◌∷◌, ◌≡◌, ◌≤◌}
 use Rattle.lot_machine.specs.declared.record.Status.TheVariants as status
 use Rattle.lot_machine.specs.declared.event.Event.TheVariants as event
+use Rattle.lot_machine.proofs.StepChanges.{IsConsole}
 use Rattle.lot_simulation.proofs.DrawnThreads.{drawn-numbered, number-some}
 use Rattle.lot_simulation.proofs.ProcessorCounts.{command-silent}
 
@@ -93,21 +94,26 @@ abbrev SumsTo : (Record → ℕ) → State → State → Type 0
 SumsTo g s a = (a.limits ≡ s.limits) × Comes s (sum_by g a.records) (sum_by g s.records)
 
 -- a new thread has won and used nothing, and a command changes no other
-change-sum : (g : Record → ℕ) (s : State) → g newborn ≡ 0 → Keeps Console s (SumsTo g s)
-change-sum g s none a (NewThread t) allowed (limits, (most, exact)) = (limits, by-free (free_threads a) (λ once. ap (λ b. cond {A = List ℕ} b a.freed.threads []) (ap (λ (sizes : Sizes). sizes.reuse) limits ∙ once)))
+change-sum : (c : Command) (g : Record → ℕ) (s : State) → g newborn ≡ 0 → Keeps (Console c) s (SumsTo g s)
+change-sum c g s none a (NewThread t) allowed (limits, (most, exact)) = (limits, by-free (free_threads a) (λ once. ap (λ b. cond {A = List ℕ} b a.freed.threads []) (ap (λ (sizes : Sizes). sizes.reuse) limits ∙ once)))
   where
     by-free : (free : List ℕ) → (s.limits.reuse ≡ false → free ≡ []) → Comes s (sum_by g (placed a.records free newborn)) (sum_by g s.records)
     by-free [] empty =
         let more : sum_by g (a.records ++ newborn ∷ []) ≡ sum_by g a.records = omega (arith, sum_by_push g a.records newborn, none) in (omega (arith, more, most), λ once. more ∙ exact once)
     by-free (i ∷ free) empty = (omega (arith, sum-set_less g a.records i newborn none, most), λ once. let never : i ∷ free ≡ [] = empty once in cc)
-change-sum g s none a (PutRecord t r) allowed same = absurd (allowed.mover refl)
-change-sum g s none a other allowed same = same
+change-sum c g s none a (PutRecord t r) allowed same = absurd (allowed.mover refl)
+change-sum c g s none a other allowed same = same
+
+-- the console does no work of a trap, unless it kills a thread
+untallied : (by : By) → IsConsole by → ¬ IsTallied by
+untallied (Console c) console tallied = tallied
+untallied other console tallied = cc
 
 -- something of a record that says nothing of what its thread does
 module _ (g : Record → ℕ) (even : (r : Record) (st : Status) (compensation delivered : Option ℕ) → g (record r { status = st; compensation = compensation; delivered = delivered }) ≡ g r) where
   -- the work of a trap leaves it, in each record, and so does a kill
   change-even : (by : By) (s : State) → IsTallied by → Keeps by s (λ a. map g a.records ≡ map g s.records)
-  change-even by s tallied a (NewThread t) allowed same = absurd (subst IsTallied allowed.0 tallied)
+  change-even by s tallied a (NewThread t) allowed same = absurd (untallied by allowed.0 tallied)
   change-even by s tallied a (PutRecord t r) allowed same =
       put-leaves g a.records t r allowed.there.0 allowed.there.1 (ap g (allowed.tally tallied) ∙ even allowed.there.0 r.status r.compensation r.delivered) ∙ same
   change-even by s tallied a other allowed same = same
@@ -117,7 +123,7 @@ module _ (g : Record → ℕ) (even : (r : Record) (st : Status) (compensation d
 
   command-sum : (s : State) (c : Command) → g newborn ≡ 0 → Comes s (sum_by g (command_step s c).state.records) (sum_by g s.records)
   command-sum s (Kill thread) none = as-much s _ _ (sum-same g (command_step s (Kill thread)).state.records s.records (kill-even s thread))
-  command-sum s c none = (kept (SumsTo g s) (change-sum g s none) (command-leads s c) (refl, as-much s _ _ refl)).1
+  command-sum s c none = (kept (SumsTo g s) (change-sum c g s none) (command-leads s c) (refl, as-much s _ _ refl)).1
 
 command-adds : (s : State) (c : Command) → Adds s (command_step s c)
 command-adds s c =

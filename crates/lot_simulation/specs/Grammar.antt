@@ -15,6 +15,8 @@ use Rattle.lot_machine.specs.Arguments as value
 use Rattle.lot_machine.specs.declared.verb.Verb.{Verb}
 use Rattle.lot_machine.specs.declared.verb.Verb.TheVariants as verb
 use Rattle.lot_machine.specs.Verbs.{command_from, form}
+use Rattle.lot_simulation.specs.declared.forms.Argument.{Argument}
+use Rattle.lot_simulation.specs.declared.forms.Argument.TheVariants.{Number, KnownName}
 use Rattle.lot_simulation.specs.declared.input.HeaderWord.{HeaderWord}
 use Rattle.lot_simulation.specs.declared.input.HeaderWord.TheVariants as header
 use Rattle.lot_simulation.specs.declared.input.Options.{Options}
@@ -29,12 +31,11 @@ use Rattle.lot_machine.specs.declared.sizes.Sizes.{Sizes}
 use Rattle.lot_simulation.specs.declared.separators.Separators.{Separators}
 use Rattle.lot_simulation.specs.declared.separators.Separators.TheVariants.{Blanks}
 use Rattle.lot_simulation.specs.Lines.{lines_of, without_end, separators_in, tokens_of, is_ignored, is_printable}
-use Rattle.lot_simulation.specs.Words.{word_in, header_words, timed_header_words, header_place, options_with, body_place, body_words, timed_body_words, script_words, timed_script_words}
+use Rattle.lot_simulation.specs.Words.{word_in, words_for, header_table, header_place, options_with, body_place, body_table, script_words, timed_script_words, arguments_of}
 use Rattle.lot_simulation.specs.Reading.{OpenScript, Reading, opening_reading, ◌>>=◌, checked, only_token, each, each_pair, number_between, any_number, actor_below, any_name, any_ticket, new_name, known_name, script_number}
 use Rattle.lot_machine.specs.Lottery.{mixed_seed}
 use Rattle.lot_simulation.specs.World.{Program}
-use Rattle.lot_machine.specs.Actions.{TrapWord, with_numbers}
-use Rattle.lot_machine.specs.declared.trap.Trap.TheVariants as trap
+use Rattle.lot_machine.specs.Actions.{with_numbers}
 
 -- whether the duration, which a timed input must give, is still missing
 abbrev pub lacks_duration : Reading → Bool
@@ -136,41 +137,37 @@ is_full s = nat_le 1024 (length s.lines)
 abbrev pub add_line : Reading → OpenScript → ScriptLine → Result Reading InputRefusal
 add_line r s l = checked ((is_full s, TooLong) ∷ []) (record r { unclosed = Some (with_line s l) })
 
--- what a trap's word takes from the tokens, given the names of ports and mutexes: the number of its port or mutex, the
--- ticks of its sleep, or 0 for nothing
-abbrev pub trap_number : List (List ℕ) → List (List ℕ) → TrapWord → List (List ℕ) → Result ℕ InputRefusal
-trap_number ports mutexes trap.Yield [] = Ok 0
-trap_number ports mutexes (trap.Reply s) [] = Ok 0
-trap_number ports mutexes (trap.Call o s) (name ∷ []) = known_name ports name
-trap_number ports mutexes (trap.Receive o) (name ∷ []) = known_name ports name
-trap_number ports mutexes (trap.Serve o s) (name ∷ []) = known_name ports name
-trap_number ports mutexes (trap.Lock o) (name ∷ []) = known_name mutexes name
-trap_number ports mutexes (trap.Unlock o d) (name ∷ []) = known_name mutexes name
-trap_number ports mutexes (trap.Sleep t) (n ∷ []) = number_between 1 4294967295 n
-trap_number ports mutexes word tokens = Err BadLine
+-- the number that this argument means, or that of a port or mutex, given their names
+abbrev pub argument_number : List (List ℕ) → List (List ℕ) → Argument → List ℕ → Result ℕ InputRefusal
+argument_number ports mutexes (Number range) token = number_between range.first range.last token
+argument_number ports mutexes (KnownName body.Port) token = known_name ports token
+argument_number ports mutexes (KnownName body.Mutex) token = known_name mutexes token
+argument_number ports mutexes other token = Err BadLine
+
+-- the number that the tokens give a word of a script with these arguments, or 0 if it takes none
+abbrev pub only_argument : List (List ℕ) → List (List ℕ) → List Argument → List (List ℕ) → Result ℕ InputRefusal
+only_argument ports mutexes [] [] = Ok 0
+only_argument ports mutexes (argument ∷ []) (token ∷ []) = argument_number ports mutexes argument token
+only_argument ports mutexes arguments tokens = Err BadLine
+
+-- the reading after a word of a script with this number
+abbrev pub numbered_line : Reading → OpenScript → ScriptWord → ℕ → Result Reading InputRefusal
+numbered_line r s script.Compute n = add_line r s (line.Compute n)
+numbered_line r s script.Set n = add_line r s (line.Set n)
+numbered_line r s script.Add n = add_line r s (line.Add n)
+numbered_line r s script.Loop n =
+    checked ((nat_le 8 s.loops, TooDeep) ∷ (is_full s, TooLong) ∷ []) (record r { unclosed = Some (record (with_line s (line.Loop n)) { loops = s.loops + 1 }) })
+numbered_line r s script.End n =
+    checked ((s.loops == 0, BadLine) ∷ (is_full s, TooLong) ∷ []) (record r { unclosed = Some (record (with_line s line.End) { loops = s.loops - 1 }) })
+numbered_line r s (script.Trap word) n = add_line r s (line.Trap (with_numbers word n tt tt n))
+numbered_line r s script.EndScript n =
+    checked ((nat_lt 0 s.loops, BadLine) ∷ []) (record r { unclosed = None; scripts = r.scripts ++ record { name = s.name; lines = s.lines } ∷ [] })
 
 -- the reading after a line of a script
 abbrev pub script_line : Reading → OpenScript → ScriptWord → List (List ℕ) → Result Reading InputRefusal
-script_line r s script.Compute tokens = do
-  ticks ← only_token (number_between 1 4294967295) tokens
-  add_line r s (line.Compute ticks)
-script_line r s script.Set tokens = do
-  number ← only_token (number_between 0 4294967295) tokens
-  add_line r s (line.Set number)
-script_line r s script.Add tokens = do
-  number ← only_token (number_between 0 4294967295) tokens
-  add_line r s (line.Add number)
-script_line r s script.Loop tokens = do
-  times ← only_token (number_between 1 65535) tokens
-  checked ((nat_le 8 s.loops, TooDeep) ∷ (is_full s, TooLong) ∷ []) (record r { unclosed = Some (record (with_line s (line.Loop times)) { loops = s.loops + 1 }) })
-script_line r s script.End [] =
-    checked ((s.loops == 0, BadLine) ∷ (is_full s, TooLong) ∷ []) (record r { unclosed = Some (record (with_line s line.End) { loops = s.loops - 1 }) })
-script_line r s (script.Trap word) tokens = do
-  number ← trap_number r.ports r.mutexes word tokens
-  add_line r s (line.Trap (with_numbers word number tt tt number))
-script_line r s script.EndScript [] =
-    checked ((nat_lt 0 s.loops, BadLine) ∷ []) (record r { unclosed = None; scripts = r.scripts ++ record { name = s.name; lines = s.lines } ∷ [] })
-script_line r s word tokens = Err BadLine
+script_line r s word tokens = do
+  number ← only_argument r.ports r.mutexes (arguments_of word) tokens
+  numbered_line r s word number
 
 -- ---- several words on a line of a script, in a timed input
 
@@ -181,11 +178,7 @@ pub record Phrase : Type 0 where
 
 -- whether the word takes no argument; each other word takes one
 abbrev pub stands_alone : ScriptWord → Bool
-stands_alone script.End = true
-stands_alone (script.Trap trap.Yield) = true
-stands_alone (script.Trap (trap.Reply s)) = true
-stands_alone script.EndScript = true
-stands_alone word = false
+stands_alone word = length (arguments_of word) == 0
 
 -- whether the token is a word that takes no argument
 abbrev pub is_alone : List ℕ → Bool
@@ -385,11 +378,11 @@ line_outside n r None None tokens = Err BadLine
 
 -- the words that may begin header lines of this input
 abbrev pub header_words_of : Reading → List (List ℕ × HeaderWord)
-header_words_of r = if r.is_timed then timed_header_words else header_words
+header_words_of r = words_for r.is_timed header_table
 
 -- the words that may begin body lines of this input
 abbrev pub body_words_of : Reading → List (List ℕ × BodyWord)
-body_words_of r = if r.is_timed then timed_body_words else body_words
+body_words_of r = words_for r.is_timed body_table
 
 -- A line after the first, by its first token. A line within a script is one phrase, or several in a timed input.
 abbrev pub later_line : ℕ → Reading → Option OpenScript → List ℕ → List (List ℕ) → Result Reading InputRefusal

@@ -358,9 +358,9 @@ timed_whole_total m turns =
 abbrev pub timed_thread_lines : State → List TimedTurn → ℕ → List ℕ
 timed_thread_lines s turns all = flat_map (λ t. option_map_or (timed_thread_total s turns all t) (thread_row s t) []) (numbers s.records)
 
--- the report of the moment after these turns
-abbrev pub timed_report_of : Moment → ℕ → List TimedTurn → List ℕ
-timed_report_of m end turns =
+-- the report of a program that has come to this moment by these turns, and whose play ends at this time
+abbrev pub timed_report_of : Program → Moment → ℕ → List TimedTurn → List ℕ
+timed_report_of program m end turns =
     codes "report" ++ (newline ++ (timed_thread_lines m.world.state turns (total_of ticks_in (actor_turns turns))
     ++ (timed_currency_lines m.world.state turns (total_of ticks_in (actor_turns turns))
     ++ (flat_map (timed_processor_total m end (actor_turns turns)) (range_with_len 1 m.world.state.limits.processors)
@@ -381,7 +381,7 @@ early_text early = option_map_or early_line early []
 
 -- the report of a timed program that has come to this moment by these turns; the line of an early end is its last
 abbrev pub report_at : Program → Moment → List TimedTurn → List ℕ
-report_at program m turns = timed_report_of m (ended_at program m) turns ++ early_text (early_end program m (length turns))
+report_at program m turns = timed_report_of program m (ended_at program m) turns ++ early_text (early_end program m (length turns))
 
 -- the report of a timed program that makes these turns
 abbrev pub report_after : Program → List TimedTurn → List ℕ

@@ -92,7 +92,8 @@ pub fn timed_processors_add_up()
 pub fn few_turns_come_to_the_end()
     ensures { (program : Program) → is_stopped program (last_moment program) ≡ false
         → length (timed_turns program) < timed_room
-        → timed_report program ≡ timed_report_of (last_moment program) (end_of program) (timed_turns program) }
+        → timed_report program
+        ≡ timed_report_of program (last_moment program) (end_of program) (timed_turns program) }
 {}
 
 /// A refused command or trap is the last turn of a strict program.

@@ -37,5 +37,5 @@ pub use timed::{Clock, Due, EarlyEnd, PastLives, Sleeper, Span, SpanChange, Span
 pub use warnings::{Lack, Owner, RefusedCommand, RefusedTrap, StuckThread, Warnings};
 pub use words::{
     AS_WORD, COMPENSATION_WORD, FIRST_WORD, HEADER_WORDS, LENDING_WORD, RUNS_WORD, SCHEDULE_WORD,
-    WordRow,
+    WordRow, makes_ticket,
 };

@@ -86,3 +86,6 @@ pub const TIMES: Range = Range {
     first: 1,
     last: 65535,
 };
+
+/// No number.
+pub const NONE: Range = Range { first: 1, last: 0 };

@@ -80,10 +80,10 @@ module _ (seen : Seen) (timekeeper : Timekeeper) (end : IsAtEnd seen timekeeper)
 
   -- the report of what the system has come to is the program's
   pub report-is : (program : Program) → seen.setting.program ≡ program
-      → timed_report_of (moment_in seen timekeeper) (ended_at program (moment_in seen timekeeper)) all ++ early_text (early_end program (moment_in seen timekeeper) (length seen.history)) ≡ timed_report program
+      → timed_report_of program (moment_in seen timekeeper) (ended_at program (moment_in seen timekeeper)) all ++ early_text (early_end program (moment_in seen timekeeper) (length seen.history)) ≡ timed_report program
   report-is program same =
       let m = moment_in seen timekeeper in
-      ap (λ n. timed_report_of m (ended_at program m) all ++ early_text (early_end program m n)) count-is ∙ ap (λ (m : Moment). report_at program m all) last-is
+      ap (λ n. timed_report_of program m (ended_at program m) all ++ early_text (early_end program m n)) count-is ∙ ap (λ (m : Moment). report_at program m all) last-is
       ∙ ap (λ (p : Program). report_at program (last_moment p) (timed_turns p)) same
 
 -- ---- early ends
@@ -99,8 +99,8 @@ early-line seen now timekeeper program early same is = ap early_text (is ∙ ap 
 
 -- the lines of a report that ends at this time
 pub lines-are : (seen : Seen) (timekeeper : Timekeeper) (program : Program) (ended : ℕ) → ended ≡ ended_at program (moment_in seen timekeeper)
-    → timed_report_of (moment_in seen timekeeper) ended (timed_turns seen.setting.program) ≡ timed_report_of (moment_in seen timekeeper) (ended_at program (moment_in seen timekeeper)) (timed_turns seen.setting.program)
-lines-are seen timekeeper program ended is = ap (λ n. timed_report_of (moment_in seen timekeeper) n (timed_turns seen.setting.program)) is
+    → timed_report_of program (moment_in seen timekeeper) ended (timed_turns seen.setting.program) ≡ timed_report_of program (moment_in seen timekeeper) (ended_at program (moment_in seen timekeeper)) (timed_turns seen.setting.program)
+lines-are seen timekeeper program ended is = ap (λ n. timed_report_of program (moment_in seen timekeeper) n (timed_turns seen.setting.program)) is
 
 -- ---- lines by the numbers that they show
 

@@ -92,7 +92,7 @@ fn write_lines<W: Write>(
     requires working { writer.old.failed ≡ false }
     ensures same { system.new ≡ system.old }
     ensures text { Writes W.contents writer.old writer.new result
-        (reports.timed_report_of (moment_in system.old timekeeper.now)
+        (reports.timed_report_of program.now (moment_in system.old timekeeper.now)
         (timed.ended_at program.now (moment_in system.old timekeeper.now)) (timed_turns system.old.setting.program)) }
 {
     write_report_line(writer)?;

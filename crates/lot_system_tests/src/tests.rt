@@ -23,31 +23,13 @@ use std::alloc::Global;
 use std::process::Abort;
 
 /// One thread that computes.
-const SPINNER: &str = "lottery 1
-script s
-compute 150
-endscript
-fundx 1 base a s
-";
+const SPINNER: &str = "lottery 1\nscript s\ncompute 150\nendscript\nfundx 1 base a s\n";
 
 /// A client calls a server with 41, and the reply is 42.
-const CALL_AND_REPLY: &str = "lottery 1
-quantum 10
-port p
-script srv
-receive p
-add 1
-reply
-endscript
-script cli
-set 41
-call p
-compute 2
-endscript
-fundx 5 base s srv
-fundx 5 base c cli
-schedule 0 0 1 1 1 1 1 1 1 1 1 1
-";
+const CALL_AND_REPLY: &str =
+    "lottery 1\nquantum 10\nport p\nscript srv\nreceive p\nadd 1\nreply\nendscript\n\
+    script cli\nset 41\ncall p\ncompute 2\nendscript\nfundx 5 base s srv\nfundx 5 base c cli\n\
+    schedule 0 0 1 1 1 1 1 1 1 1 1 1\n";
 
 fn parsed(rt: &impl Abort, alloc: Global, input: &str) -> Program {
     parse(alloc, input.as_bytes()).expect(rt, "a program")

@@ -1,29 +1,10 @@
 -- Lines of commands, by their tokens.
-use Rattle.lot_text.proofs.Common.{BadLine, Command, Err, InputRefusal, List, None, Ok, Option, Reading, Result, Slot, Some, Value, Verb, add_made, add_named, add_naming, ap, append_assoc, arith, command_from, command_line, drop, drop-append_seam, false, form, le-ltb, length, length-append, length-map, map, map-append, name_at_end, name_in, nat_lt, numbered, refl, sym, values_from, ℕ, [], ◌++◌, ◌>>=◌, ◌∙◌, ◌∷◌, ◌≡◌}
+use Rattle.lot_text.proofs.Common.{BadLine, Bool, Command, Err, InputRefusal, List, None, Ok, Option, Reading, Result, Slot, Some, Value, Verb, add_made, add_named, add_naming, ap, arith, checked, command_from, command_line, drop, false, false≢true, form, le-ltb, length, lt-ltb, map, name_at_end, name_in, nat_lt, numbered, refl, sym, true, values_from, ℕ, [], ◌>>=◌, ◌∙◌, ◌∷◌, ◌≡◌, ◌<◌, ◌≤◌}
+use Rattle.std.specs.Prelude.{is_err}
 use Rattle.lot_machine.specs.Arguments.{NamedTicket}
 use Rattle.lot_machine.specs.Verbs.{command_given, values_given}
 use Rattle.lot_simulation.specs.Grammar.{value_from}
 use Rattle.lot_text.specs.LineArguments.{LineTokens, name_with, token_given}
-
--- one token more in front
-pub taken-more : {A : Type 0} (now : A → List ℕ) (all : List (List ℕ)) (given after : List A) (token : A) (tokens rest : List (List ℕ)) → all ≡ map now given ++ tokens
-    → tokens ≡ now token ∷ rest → after ≡ given ++ token ∷ [] → all ≡ map now after ++ rest
-taken-more now all given after token tokens rest is next more =
-    rw (is, next, more, map-append now given (token ∷ []), append_assoc (map now given) (now token ∷ []) rest) refl
-
--- the arguments are read from the first tokens
-values-first : (r : Reading) (kinds : List Slot) (given rest : List (List ℕ)) → length given ≡ length kinds → values_from r kinds (given ++ rest) ≡ values_from r kinds given
-values-first r [] given rest same = refl
-values-first r (kind ∷ kinds) [] rest same = absurd (omega (arith, same))
-values-first r (kind ∷ kinds) (token ∷ given) rest same = rw (values-first r kinds given rest (omega (arith, same))) refl
-
--- a line of a command is read by its end, and then from left to right
-command-read : (r : Reading) (v : Verb) (tokens given rest : List (List ℕ)) → tokens ≡ given ++ rest → length given ≡ length (form v)
-    → command_line r v tokens ≡ (name_at_end r v rest >>= λ name. values_from r (form v) given >>= λ values. add_made r name values (command_from v (map (numbered 0) values)))
-command-read r v tokens given rest is same =
-    let enough : nat_lt (length (given ++ rest)) (length (form v)) ≡ false = le-ltb (length (given ++ rest)) (length (form v)) (omega (arith, same, length-append given rest)) in
-    let left : drop (length (form v)) (given ++ rest) ≡ rest = rw (← same) (drop-append_seam given rest) in
-    rw (is, enough, left, values-first r (form v) given rest same) refl
 
 -- ---- the arguments one after the other
 
@@ -88,25 +69,63 @@ add-given r (Some token) values (Some c) = refl
 abbrev made-of : Verb → List Value × LineTokens → Result (Option Command × LineTokens) InputRefusal
 made-of v given = Ok (command_from v given.0, given.1)
 
--- a line of a command with a good end, by the command that its arguments make
-line-read : (r : Reading) (v : Verb) (tokens given rest : List (List ℕ)) (name : Option (List ℕ)) → tokens ≡ given ++ rest → length given ≡ length (form v) → name_at_end r v rest ≡ Ok name
-    → command_line r v tokens
-    ≡ (command_given token_given v (record { reading = r; tokens = given; name = None }) >>= λ made. add_given r name made.1.name made.0)
-line-read r v tokens given rest name is same end =
-    let made : command_given token_given v (record { reading = r; tokens = given; name = None }) ≡ ((values_from r (form v) given >>= given-of r (drop (length (form v)) given) None) >>= made-of v) =
-    ap (λ all. all >>= made-of v) (values-given r (form v) given None) in
-    command-read r v tokens given rest is same ∙ rw (end, made) (at (values_from r (form v) given))
+-- as many arguments are read as there are kinds
+values-count : (r : Reading) (kinds : List Slot) (tokens : List (List ℕ)) (values : List Value) → values_from r kinds tokens ≡ Ok values → length kinds ≤ length tokens
+values-count r [] tokens values is = omega arith
+values-count r (kind ∷ kinds) [] values is = absurd (false≢true (ap is_err (sym is)))
+values-count r (kind ∷ kinds) (token ∷ tokens) values is = at (values-count r kinds tokens) (value_from r kind token) refl (values_from r kinds tokens) refl
   where
-    at : (all : Result (List Value) InputRefusal) → (all >>= λ values. add_made r name values (command_from v (map (numbered 0) values)))
-        ≡ (((all >>= given-of r (drop (length (form v)) given) None) >>= made-of v) >>= λ made. add_given r name made.1.name made.0)
-    at (Err refusal) = refl
-    at (Ok values) = add-given r name values (command_from v (map (numbered 0) values)) ∙ ap (λ named. add_given r name named (command_from v (map (numbered 0) values))) (sym (names-first values))
+    at : ((others : List Value) → values_from r kinds tokens ≡ Ok others → length kinds ≤ length tokens)
+        → (first : Result Value InputRefusal) → value_from r kind token ≡ first → (others : Result (List Value) InputRefusal) → values_from r kinds tokens ≡ others
+        → length (kind ∷ kinds) ≤ length (token ∷ tokens)
+    at count (Err refusal) first others rest = absurd (false≢true (ap is_err (sym is ∙ failed)))
+      where
+        failed : values_from r (kind ∷ kinds) (token ∷ tokens) ≡ Err refusal
+        failed = rw first refl
+    at count (Ok v) first (Err refusal) rest = absurd (false≢true (ap is_err (sym is ∙ failed)))
+      where
+        failed : values_from r (kind ∷ kinds) (token ∷ tokens) ≡ Err refusal
+        failed = rw (first, rest) refl
+    at count (Ok v) first (Ok others) rest = omega (arith, count others rest)
 
--- the same by the form and the tokens for it
-pub tokens-read : {A B : Type 0} (r : Reading) (v : Verb) (tokens : List (List ℕ)) (now : A → List ℕ) (given slice : List A) (rest : List (List ℕ)) (arguments : List (B × Slot)) (name : Option (List ℕ))
-    → map (λ argument. argument.1) arguments ≡ form v → slice ≡ given → (tokens ≡ map now given ++ rest) × (length given ≡ length arguments) → name_at_end r v rest ≡ Ok name
-    → command_line r v tokens
-    ≡ (command_given token_given v (record { reading = r; tokens = map now slice; name = None }) >>= λ made. add_given r name made.1.name made.0)
-tokens-read r v tokens now given slice rest arguments name slots same is end =
-    let count : length (map now given) ≡ length (form v) = length-map given now ∙ is.1 ∙ sym (length-map arguments (λ argument. argument.1)) ∙ ap length slots in
-    rw same (line-read r v tokens (map now given) rest name is.0 count end)
+-- why a line is refused of which an argument is: it ends too early or badly, or for that argument
+abbrev pub refused : Reading → Verb → List (List ℕ) → InputRefusal → Result Reading InputRefusal
+refused r v tokens refusal = checked ((nat_lt (length tokens) (length (form v)), BadLine) ∷ []) tokens >>= λ given. name_at_end r v (drop (length (form v)) given) >>= λ name. Err refusal
+
+-- the reading after a line, by the command that its arguments make and what they leave of it
+abbrev pub read-of : Reading → Verb → List (List ℕ) → Result (Option Command × LineTokens) InputRefusal → Result Reading InputRefusal
+read-of r v tokens (Ok made) = name_at_end r v made.1.tokens >>= λ name. add_given r name made.1.name made.0
+read-of r v tokens (Err refusal) = refused r v tokens refusal
+
+-- a line of a command is read from left to right
+pub line-read : (r : Reading) (v : Verb) (tokens : List (List ℕ))
+    → command_line r v tokens ≡ read-of r v tokens (command_given token_given v (record { reading = r; tokens = tokens; name = None }))
+line-read r v tokens =
+    let made : command_given token_given v (record { reading = r; tokens = tokens; name = None }) ≡ ((values_from r (form v) tokens >>= given-of r (drop (length (form v)) tokens) None) >>= made-of v) =
+    ap (λ all. all >>= made-of v) (values-given r (form v) tokens None) in
+    rw made (at (values_from r (form v) tokens) refl)
+  where
+    at : (all : Result (List Value) InputRefusal) → values_from r (form v) tokens ≡ all
+        → command_line r v tokens ≡ read-of r v tokens ((all >>= given-of r (drop (length (form v)) tokens) None) >>= made-of v)
+    at (Err refusal) is = early (nat_lt (length tokens) (length (form v))) refl
+      where
+        early : (e : Bool) → nat_lt (length tokens) (length (form v)) ≡ e → command_line r v tokens ≡ refused r v tokens refusal
+        early true short = rw short refl
+        early false long = rw (long, is) refl
+    at (Ok values) is =
+        let enough : nat_lt (length tokens) (length (form v)) ≡ false = le-ltb (length tokens) (length (form v)) (values-count r (form v) tokens values is) in
+        rw (enough, is) (rest (name_at_end r v (drop (length (form v)) tokens)))
+      where
+        rest : (end : Result (Option (List ℕ)) InputRefusal) → (end >>= λ name. add_made r name values (command_from v (map (numbered 0) values)))
+            ≡ (end >>= λ name. add_given r name (names values None) (command_from v (map (numbered 0) values)))
+        rest (Err refusal) = refl
+        rest (Ok name) = add-given r name values (command_from v (map (numbered 0) values)) ∙ ap (λ named. add_given r name named (command_from v (map (numbered 0) values))) (sym (names-first values))
+
+-- a line with too few tokens
+pub refused-early : (r : Reading) (v : Verb) (tokens : List (List ℕ)) (refusal : InputRefusal) → length tokens < length (form v) → refused r v tokens refusal ≡ Err BadLine
+refused-early r v tokens refusal short = rw (lt-ltb (length tokens) (length (form v)) short) refl
+
+-- a line with enough
+pub refused-behind : (r : Reading) (v : Verb) (tokens rest : List (List ℕ)) (refusal : InputRefusal) → (rest ≡ drop (length (form v)) tokens) × (length (form v) ≤ length tokens)
+    → refused r v tokens refusal ≡ (name_at_end r v rest >>= λ name. Err refusal)
+refused-behind r v tokens rest refusal (is, long) = rw (is, le-ltb (length tokens) (length (form v)) long) refl

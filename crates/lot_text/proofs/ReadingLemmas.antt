@@ -1,5 +1,7 @@
 -- States of reading stay within the bounds of an input.
 use Rattle.lot_text.proofs.Common.{All, All-append, All-push, All-same, Bool, Command, Err, IsBetween, IsBody, IsNonDecreasing, IsReading, IsTrue, List, NamedScript, None, Ok, OpenScript, Option, Reading, Some, TooLong, add_naming, after_header, ap, append-nil, arith, body_place, common_steps, false, header_line, le-leb, length, length-append, lt-leb, nat_lt, number_between, refl, rules, sym, true≢false, ℕ, [], ◌++◌, ◌+◌, ◌<◌, ◌∙◌, ◌∷◌, ◌≡◌, ◌≤◌}
+use Rattle.lot_text.proofs.Common.{Gives, LineFault, Result, subst, word_in}
+use Rattle.lot_simulation.specs.Grammar.{body_words_of, header_words_of, later_line, line_outside}
 use Rattle.lot_simulation.specs.declared.input.HeaderWord.TheVariants as header
 use Rattle.lot_simulation.specs.declared.input.Options.{Options}
 
@@ -259,3 +261,12 @@ without_tables r read = record {
     past = search rules;
   };
 }
+
+-- ---- a line outside scripts
+
+-- without a script, a later line is one outside scripts
+pub outside-script : {U : Type 0} (n : ℕ) (r r' : Reading) (word : List ℕ) (tokens : List (List ℕ)) (now : Reading) (result : Result U LineFault) → r ≡ r' → r.unclosed ≡ None
+    → Gives now result (line_outside n r' (word_in (header_words_of r') word) (word_in (body_words_of r') word) tokens) → Gives now result (later_line n r r.unclosed word tokens)
+outside-script n r r' word tokens now result same none gives =
+    subst (λ (unclosed : Option OpenScript). Gives now result (later_line n r unclosed word tokens)) (sym none)
+    (subst (λ (s : Reading). Gives now result (later_line n s None word tokens)) (sym same) gives)

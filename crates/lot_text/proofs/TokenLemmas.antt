@@ -1,5 +1,5 @@
 -- The first word of a line, and those after it.
-use Rattle.lot_text.proofs.Common.{Blanks, Bool, List, Separators, Spaces, and_parts, ap, arith, cond, drop, drop_all, false, filter, is_comment, is_ignored, is_printable, length, length-prefix_len, lt-ltb, nat_le, nat_lt, nat_tests, not, onto_first, prefix_len, refl, separates, slice_split, suc, take, take_all, take_rest, tokens_of, true, words_of, zero, ℕ, [], ◌&&◌, ◌+◌, ◌-◌, ◌<◌, ◌==◌, ◌||◌, ◌∙◌, ◌∷◌, ◌≡◌}
+use Rattle.lot_text.proofs.Common.{Blanks, Bool, List, Separators, Spaces, and_parts, ap, arith, cond, drop, drop_all, false, filter, is_comment, is_ignored, is_printable, length, length-drop, length-prefix_len, lt-ltb, nat_le, nat_lt, nat_tests, not, onto_first, prefix_len, refl, separates, slice_split, suc, sym, take, take_all, take_rest, tokens_of, true, words_of, zero, ℕ, [], ◌&&◌, ◌+◌, ◌-◌, ◌<◌, ◌==◌, ◌||◌, ◌∙◌, ◌∷◌, ◌≡◌, ◌≤◌}
 
 abbrev is_word : List ℕ → Bool
 is_word word = nat_lt 0 (length word)
@@ -147,3 +147,22 @@ split-low s (x ∷ xs) shown =
 -- so its words are its tokens
 pub tokens_of-words : (s : Separators) (xs : List ℕ) → is_printable s xs ≡ true → tokens_of s xs ≡ words_of xs
 tokens_of-words s xs shown = ap (λ each. filter is_word each) (split-low s xs shown)
+
+-- ---- tokens that are skipped
+
+-- one token more is skipped
+pub skipped : (tokens : List (List ℕ)) (k : ℕ) (token : List ℕ) (rest : List (List ℕ)) → drop k tokens ≡ token ∷ rest → (rest ≡ drop (k + 1) tokens) × (k + 1 ≤ length tokens)
+skipped [] zero token rest is = absurd (omega (arith, ap length is))
+skipped [] (suc k) token rest is = absurd (omega (arith, ap length is))
+skipped (first ∷ tokens) zero token rest is = (ap (drop 1) (sym is), omega arith)
+skipped (first ∷ tokens) (suc k) token rest is =
+    let later = skipped tokens k token rest is in
+    let more : suc k + 1 ≡ suc (k + 1) = omega arith in
+    (rw more later.0, omega (arith, later.1))
+
+-- none is left to skip
+pub too-few : (tokens : List (List ℕ)) (k count : ℕ) → drop k tokens ≡ [] → k < count → length tokens < count
+too-few tokens k count none more = omega (arith, none', more, length-drop k tokens)
+  where
+    none' : length (drop k tokens) ≡ 0
+    none' = ap length none

@@ -1,7 +1,10 @@
--- The arguments on a line of a command.
-use Rattle.std.specs.Prelude.{ℕ, Option, Some, unwrap_or, Result, Ok, Err, List, [], ◌∷◌}
+-- The arguments on a line.
+use Rattle.std.specs.Prelude.{ℕ, ⊤, Option, Some, unwrap_or, Result, Ok, Err, List, [], ◌∷◌}
 use Rattle.lot_machine.specs.declared.verb.Slot.{Slot}
 use Rattle.lot_machine.specs.Arguments.{Value, NamedTicket}
+use Rattle.lot_machine.specs.Bounds.{IsBetween}
+use Rattle.lot_simulation.specs.declared.forms.Argument.{Argument}
+use Rattle.lot_simulation.specs.declared.forms.Argument.TheVariants.{Number}
 use Rattle.lot_simulation.specs.declared.input.InputRefusal.{InputRefusal}
 use Rattle.lot_simulation.specs.declared.input.InputRefusal.TheVariants.{BadLine}
 use Rattle.lot_simulation.specs.Reading.{Reading, ◌>>=◌}
@@ -28,3 +31,8 @@ token_given line kind = first line.tokens
     first (token ∷ tokens) = do
       given ← value_from line.reading kind token
       Ok (numbered 0 given, record line { tokens = tokens; name = name_with given line.name })
+
+-- whether a word of a script with these arguments can have the number that they give
+abbrev pub Fits : List Argument → ℕ → Type 0
+Fits (Number range ∷ []) n = IsBetween range.first range.last n
+Fits other n = ⊤

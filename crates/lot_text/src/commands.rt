@@ -1,5 +1,5 @@
 //! Lines of commands.
-ghost use Rattle.std.specs.Prelude.{◌≡◌, ◌<◌, ◌≤◌, ◌∷◌, ◌++◌, [], length, map, MatchResult};
+ghost use Rattle.std.specs.Prelude.{◌≡◌};
 ghost use Rattle.lot_simulation.specs.Grammar.{command_line as command_line_read, script_names};
 ghost use Rattle.lot_simulation.specs.Reading.{script_number as script_number_read};
 ghost use Rattle.lot_text.specs.Faults.{Gives};
@@ -12,100 +12,69 @@ use crate::number::{any_number, number};
 use crate::reading::Reading;
 use crate::ticket::{name_at_end, named_ticket};
 use crate::tokens::Tokens;
-use arrayvec::ArrayVec;
 use lot_machine::{Arguments, CurrencyRef, Name, TargetRef, ThreadRef, Verb, command_of, form_of};
 use lot_simulation::InputRefusal;
 use std::marker::Model;
 
-/// A line of a command: its arguments, one token each, and for a new ticket perhaps a name.
+/// A line of a command: its arguments, one token each, and for a new ticket perhaps a name. A line that ends too early
+/// or goes on behind that is bad, whatever its arguments are.
 pub(crate) fn command_line(
     reading: &mut Reading,
     verb: Verb,
-    mut tokens: Tokens<'_>,
+    tokens: Tokens<'_>,
 ) -> Result<(), LineFault>
     ensures { Gives reading.new result (after_header (command_line_read reading.old verb tokens.entry)) }
 {
-    let given = next_tokens(form_of(verb).len(), &mut tokens)?;
-    let name = name_at_end(reading, verb, tokens)?;
     let mut arguments = LineArguments {
         reading,
-        tokens: given.as_slice(),
+        tokens: tokens.again(),
         name: None,
     };
-    let command = command_of(verb, &mut arguments)?;
-    let named = arguments.name;
-    match name {
-        Some(token) => reading.add_named(token, command),
-        None => reading.add_naming(named, command),
+    match command_of(verb, &mut arguments) {
+        Ok(command) => {
+            let LineArguments { tokens, name, .. } = arguments;
+            match name_at_end(reading, verb, tokens)? {
+                Some(token) => reading.add_named(token, command),
+                None => reading.add_naming(name, command),
+            }
+        }
+        Err(refusal) => {
+            let rest = tokens.after(form_of(verb).len())?;
+            name_at_end(reading, verb, rest)?;
+            Err(LineFault::Refused(refusal))
+        }
     }
-}
-
-/// The next tokens, as many as these.
-fn next_tokens<'a>(
-    count: usize,
-    tokens: &mut Tokens<'a>,
-) -> Result<ArrayVec<&'a [u8], 4>, InputRefusal>
-    requires { count ≤ 4 }
-    ensures { MatchResult result
-        (λ given. (tokens.old ≡ map (λ token. token.now) given.items ++ tokens.new) × (length given.items ≡ count))
-        (λ e. (e ≡ InputRefusal.BadLine) × (length tokens.old < count)) }
-{
-    let mut given = ArrayVec::new();
-    for _ in 0..count {
-        let token = tokens.expected()?;
-        given.push(token);
-    }
-    Ok(given)
 }
 
 /// The arguments that are left on a line, one token each.
 #[derive(Drop)]
-struct LineArguments<'a> {
-    reading: &'a Reading,
-    tokens: &'a [&'a [u8]],
+struct LineArguments<'r, 'a> {
+    reading: &'r Reading,
+    tokens: Tokens<'a>,
     /// The number of the name of the first ticket so far that has one.
     name: Option<u16>,
 }
 
-impl<'a> Model for LineArguments<'a> {
-    ghost use Rattle.std.specs.Prelude.{map};
+impl<'r, 'a> Model for LineArguments<'r, 'a> {
     ghost use Rattle.lot_text.specs.LineArguments.{LineTokens};
 
     ghost Value = { LineTokens };
 
-    ghost view = { λ a. record {
-      reading = a.reading.now;
-      tokens = map (λ token. token.now) a.tokens.now;
-      name = a.name;
-    } };
+    ghost view = { λ a. record { reading = a.reading.now; tokens = a.tokens; name = a.name } };
 }
 
-impl<'a> LineArguments<'a> {
-    /// The token of the next argument.
-    fn next_token(&mut self) -> Result<&'a [u8], InputRefusal>
-        ensures { MatchResult result (λ token. self.old ≡ record self.new { tokens = token.now ∷ self.new.tokens })
-            (λ e. (e ≡ InputRefusal.BadLine) × (self.old.tokens ≡ [])) }
-    {
-        let [token, others @ ..] = self.tokens else {
-            return Err(InputRefusal::BadLine);
-        };
-        self.tokens = others;
-        Ok(*token)
-    }
-}
-
-impl<'a> Arguments for LineArguments<'a> {
+impl<'r, 'a> Arguments for LineArguments<'r, 'a> {
     type Refusal = InputRefusal;
 
     ghost gives = { token_given };
 
     fn amount(&mut self) -> Result<u64, InputRefusal> {
-        let token = self.next_token()?;
+        let token = self.tokens.expected()?;
         Ok(any_number(token)?)
     }
 
     fn ticket(&mut self) -> Result<u64, InputRefusal> {
-        let token = self.next_token()?;
+        let token = self.tokens.expected()?;
         if let Some(number) = number(token) {
             return Ok(number);
         }
@@ -115,27 +84,27 @@ impl<'a> Arguments for LineArguments<'a> {
     }
 
     fn currency(&mut self) -> Result<CurrencyRef, InputRefusal> {
-        let token = self.next_token()?;
+        let token = self.tokens.expected()?;
         Ok(CurrencyRef::Named(any_name(token)?))
     }
 
     fn target(&mut self) -> Result<TargetRef, InputRefusal> {
-        let token = self.next_token()?;
+        let token = self.tokens.expected()?;
         Ok(TargetRef::Named(any_name(token)?))
     }
 
     fn thread(&mut self) -> Result<ThreadRef, InputRefusal> {
-        let token = self.next_token()?;
+        let token = self.tokens.expected()?;
         Ok(ThreadRef::Named(any_name(token)?))
     }
 
     fn name(&mut self) -> Result<Name, InputRefusal> {
-        let token = self.next_token()?;
+        let token = self.tokens.expected()?;
         Ok(any_name(token)?)
     }
 
     fn script(&mut self) -> Result<u32, InputRefusal> {
-        let token = self.next_token()?;
+        let token = self.tokens.expected()?;
         Ok(script_named(self.reading, token)?)
     }
 }

@@ -68,7 +68,7 @@ fn header_arguments(
         HeaderWord::Seed => read_seed(alloc, reading, tokens),
         HeaderWord::Limits => read_limits(reading, tokens),
         HeaderWord::Without => read_without(reading, tokens),
-        HeaderWord::Lottery | HeaderWord::Reuse | HeaderWord::Strict => {
+        _ => {
             let chosen = reading.options.with_word(word);
             read_option(reading, chosen, tokens)
         }

@@ -19,7 +19,6 @@ use crate::header::{first_line, header_line};
 use crate::reading::{OpenScript, Reading};
 use crate::script_lines::script_line;
 use crate::tokens::{Tokens, begins_comment, is_ignored, line_len};
-use crate::words::stands_alone;
 use lot_program::{Program, Seed};
 use lot_simulation::{
     BodyWord, FIRST_WORD, Format, HeaderWord, InputFault, InputRefusal, ScriptWord, Separators,
@@ -214,7 +213,7 @@ fn phrase_inside(
     let Some(word) = ScriptWord::of_token(Format::V3, word) else {
         return Err(LineFault::Refused(InputRefusal::BadLine));
     };
-    if stands_alone(word) {
+    if word.stands_alone() {
         return script_line(reading, script, word, Tokens::empty());
     }
     script_line(reading, script, word, tokens.next_alone())

@@ -15,7 +15,6 @@ mod runs;
 mod script_lines;
 mod ticket;
 mod tokens;
-mod words;
 
 pub use fault::ParseFault;
 pub use input::{parse, parse_seeded};

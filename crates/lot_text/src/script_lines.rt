@@ -1,19 +1,21 @@
 //! Lines of scripts.
-ghost use Rattle.std.specs.Prelude.{◌≡◌, ◌<◌, length, IfOk};
-ghost use Rattle.lot_machine.specs.Actions.{with_numbers};
-ghost use Rattle.lot_simulation.specs.Grammar.{script_line as script_line_read, trap_number as trap_number_read};
+ghost use Rattle.std.specs.Prelude.{◌≡◌, ◌<◌, [], ◌∷◌, length, map, IfOk};
+ghost use Rattle.lot_simulation.specs.Grammar.{argument_number as argument_number_read, numbered_line};
+ghost use Rattle.lot_simulation.specs.Grammar.{only_argument as only_argument_read, script_line as script_line_read};
+ghost use Rattle.lot_simulation.specs.Words.{arguments_of};
 ghost use Rattle.lot_script.specs.Drafts.{CanNest, IsLine};
 ghost use Rattle.lot_text.specs.Faults.{Gives};
+ghost use Rattle.lot_text.specs.LineArguments.{Fits};
 ghost use Rattle.lot_text.specs.Readings.{line_added, within_script};
 
 use crate::fault::LineFault;
 use crate::name::known_name;
-use crate::number::only_number;
+use crate::number::number_in;
 use crate::reading::{NamedScript, OpenScript, Reading};
 use crate::tokens::Tokens;
-use lot_machine::{Trap, TrapWord};
+use lot_machine::TrapWord;
 use lot_script::ScriptBuilder;
-use lot_simulation::{InputRefusal, ScriptLine, ScriptWord, ranges};
+use lot_simulation::{Argument, BodyWord, InputRefusal, ScriptLine, ScriptWord};
 
 /// A line of this script, which stays open until `endscript`.
 pub(crate) fn script_line(
@@ -25,58 +27,74 @@ pub(crate) fn script_line(
     requires { length reading.old.scripts < 256 }
     ensures { Gives reading.new result (script_line_read (within_script reading.old script) script word tokens.entry) }
 {
+    let number = only_argument(reading, word.arguments(), tokens)?;
+    numbered(reading, script, word, number)
+}
+
+/// A line with this word and the number that its argument gives.
+fn numbered(
+    reading: &mut Reading,
+    script: OpenScript,
+    word: ScriptWord,
+    number: u32,
+) -> Result<(), LineFault>
+    requires room { length reading.old.scripts < 256 }
+    requires fits { Fits (arguments_of word) number }
+    ensures { Gives reading.new result (numbered_line (within_script reading.old script) script word number) }
+{
     match word {
-        ScriptWord::Compute => compute(reading, script, tokens),
-        ScriptWord::Set => set(reading, script, tokens),
-        ScriptWord::Add => add(reading, script, tokens),
-        ScriptWord::Loop => begin_loop(reading, script, tokens),
-        ScriptWord::End => end_loop(reading, script, tokens),
-        ScriptWord::Trap(word) => trap(reading, script, word, tokens),
-        ScriptWord::EndScript => end_script(reading, script, tokens),
+        ScriptWord::Compute => add_line(reading, script, ScriptLine::Compute(number)),
+        ScriptWord::Set => add_line(reading, script, ScriptLine::Set(number)),
+        ScriptWord::Add => add_line(reading, script, ScriptLine::Add(number)),
+        ScriptWord::Loop => begin_loop(reading, script, number),
+        ScriptWord::End => end_loop(reading, script),
+        ScriptWord::Trap(word) => trap(reading, script, word, number),
+        ScriptWord::EndScript => end_script(reading, script),
     }
 }
 
-/// `compute TICKS`
-fn compute(reading: &mut Reading, script: OpenScript, tokens: Tokens<'_>) -> Result<(), LineFault>
-    requires { length reading.old.scripts < 256 }
-    ensures { Gives reading.new result
-        (script_line_read (within_script reading.old script) script ScriptWord.Compute tokens.entry) }
+/// The number that the tokens give a word of a script with these arguments, or that of the port or mutex that they
+/// name; 0 if it takes none.
+fn only_argument(
+    reading: &Reading,
+    arguments: &[(&str, Argument)],
+    tokens: Tokens<'_>,
+) -> Result<u32, InputRefusal>
+    ensures fits { IfOk result (Fits (map (λ argument. argument.1) arguments.now)) }
+    ensures read { result ≡ only_argument_read reading.now.ports reading.now.mutexes
+        (map (λ argument. argument.1) arguments.now) tokens.entry }
 {
-    let ticks = only_number(ranges::WORK, tokens)?;
-    add_line(reading, script, ScriptLine::Compute(ticks))
+    match arguments {
+        [] => {
+            tokens.none()?;
+            Ok(0)
+        }
+        [(_, argument)] => argument_number(reading, *argument, tokens.only()?),
+        _ => Err(InputRefusal::BadLine),
+    }
 }
 
-/// `set NUMBER`
-fn set(reading: &mut Reading, script: OpenScript, tokens: Tokens<'_>) -> Result<(), LineFault>
-    requires { length reading.old.scripts < 256 }
-    ensures { Gives reading.new result
-        (script_line_read (within_script reading.old script) script ScriptWord.Set tokens.entry) }
+/// The number that this argument means, or that of the port or mutex that it names.
+fn argument_number(reading: &Reading, argument: Argument, token: &[u8]) -> Result<u32, InputRefusal>
+    ensures fits { IfOk result (Fits (argument ∷ [])) }
+    ensures read { result
+        ≡ argument_number_read reading.now.ports reading.now.mutexes argument token.now }
 {
-    let number = only_number(ranges::NUMBER, tokens)?;
-    add_line(reading, script, ScriptLine::Set(number))
-}
-
-/// `add NUMBER`
-fn add(reading: &mut Reading, script: OpenScript, tokens: Tokens<'_>) -> Result<(), LineFault>
-    requires { length reading.old.scripts < 256 }
-    ensures { Gives reading.new result
-        (script_line_read (within_script reading.old script) script ScriptWord.Add tokens.entry) }
-{
-    let number = only_number(ranges::NUMBER, tokens)?;
-    add_line(reading, script, ScriptLine::Add(number))
+    match argument {
+        Argument::Number(range) => number_in(range, token),
+        Argument::KnownName(BodyWord::Port) => known_name(reading.ports.as_slice(), token),
+        Argument::KnownName(BodyWord::Mutex) => known_name(reading.mutexes.as_slice(), token),
+        _ => Err(InputRefusal::BadLine),
+    }
 }
 
 /// `loop TIMES`
-fn begin_loop(
-    reading: &mut Reading,
-    script: OpenScript,
-    tokens: Tokens<'_>,
-) -> Result<(), LineFault>
-    requires { length reading.old.scripts < 256 }
+fn begin_loop(reading: &mut Reading, script: OpenScript, times: u32) -> Result<(), LineFault>
+    requires room { length reading.old.scripts < 256 }
+    requires times { IsLine (ScriptLine.Loop times) }
     ensures { Gives reading.new result
-        (script_line_read (within_script reading.old script) script ScriptWord.Loop tokens.entry) }
+        (numbered_line (within_script reading.old script) script ScriptWord.Loop times) }
 {
-    let times = only_number(ranges::TIMES, tokens)?;
     if 8 <= script.builder.open_loops() {
         return Err(LineFault::Refused(InputRefusal::TooDeep));
     }
@@ -84,30 +102,29 @@ fn begin_loop(
 }
 
 /// `end`
-fn end_loop(reading: &mut Reading, script: OpenScript, tokens: Tokens<'_>) -> Result<(), LineFault>
+fn end_loop(reading: &mut Reading, script: OpenScript) -> Result<(), LineFault>
     requires { length reading.old.scripts < 256 }
     ensures { Gives reading.new result
-        (script_line_read (within_script reading.old script) script ScriptWord.End tokens.entry) }
+        (numbered_line (within_script reading.old script) script ScriptWord.End 0) }
 {
-    tokens.none()?;
     if script.builder.open_loops() == 0 {
         return Err(LineFault::Refused(InputRefusal::BadLine));
     }
     add_line(reading, script, ScriptLine::End)
 }
 
-/// A trap, at the port, on the mutex or for the ticks that the tokens give.
+/// A trap, at the port, on the mutex or for the ticks with this number.
 fn trap(
     reading: &mut Reading,
     script: OpenScript,
     word: TrapWord,
-    tokens: Tokens<'_>,
+    number: u32,
 ) -> Result<(), LineFault>
-    requires { length reading.old.scripts < 256 }
+    requires room { length reading.old.scripts < 256 }
+    requires number { Fits (arguments_of (ScriptWord.Trap word)) number }
     ensures { Gives reading.new result
-        (script_line_read (within_script reading.old script) script (ScriptWord.Trap word) tokens.entry) }
+        (numbered_line (within_script reading.old script) script (ScriptWord.Trap word) number) }
 {
-    let number = trap_number(reading, word, tokens)?;
     add_line(
         reading,
         script,
@@ -115,38 +132,12 @@ fn trap(
     )
 }
 
-/// The number of a trap's port or mutex, or the ticks of its sleep; 0 if it takes no argument.
-fn trap_number(reading: &Reading, word: TrapWord, tokens: Tokens<'_>) -> Result<u32, InputRefusal>
-    ensures line { IfOk result (λ number. IsLine (ScriptLine.Trap (with_numbers word number tt tt number))) }
-    ensures read { result ≡ trap_number_read reading.now.ports reading.now.mutexes word tokens.entry }
-{
-    match word {
-        Trap::Yield | Trap::Reply(_) => {
-            tokens.none()?;
-            Ok(0)
-        }
-        Trap::Call(..) | Trap::Receive(_) | Trap::Serve(..) => {
-            known_name(reading.ports.as_slice(), tokens.only()?)
-        }
-        Trap::Lock(_) | Trap::Unlock(..) => {
-            known_name(reading.mutexes.as_slice(), tokens.only()?)
-        }
-        Trap::Sleep(_) => only_number(ranges::SLEEP, tokens),
-        Trap::Exit => Err(InputRefusal::BadLine),
-    }
-}
-
 /// `endscript`
-fn end_script(
-    reading: &mut Reading,
-    script: OpenScript,
-    tokens: Tokens<'_>,
-) -> Result<(), LineFault>
+fn end_script(reading: &mut Reading, script: OpenScript) -> Result<(), LineFault>
     requires { length reading.old.scripts < 256 }
     ensures { Gives reading.new result
-        (script_line_read (within_script reading.old script) script ScriptWord.EndScript tokens.entry) }
+        (numbered_line (within_script reading.old script) script ScriptWord.EndScript 0) }
 {
-    tokens.none()?;
     if 0 < script.builder.open_loops() {
         return Err(LineFault::Refused(InputRefusal::BadLine));
     }

@@ -8,9 +8,8 @@ ghost use Rattle.lot_simulation.specs.Reading.{any_ticket};
 use crate::name::number_named;
 use crate::reading::Reading;
 use crate::tokens::Tokens;
-use crate::words::makes_ticket;
 use lot_machine::{Verb, is_good_name};
-use lot_simulation::{AS_WORD, InputRefusal};
+use lot_simulation::{AS_WORD, InputRefusal, makes_ticket};
 
 /// A ticket in a command that isn't given by its number: in a timed input, the number of a name that an earlier line
 /// gave.

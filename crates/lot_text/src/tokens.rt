@@ -1,5 +1,5 @@
 //! The tokens of a line.
-ghost use Rattle.std.specs.Prelude.{◌≡◌, ◌≢◌, ◌==◌, ◌≤◌, ◌%◌, ◌&&◌, ◌||◌, ◌↔◌, [], ◌∷◌, IfSome, IsTrue, MatchOption};
+ghost use Rattle.std.specs.Prelude.{◌≡◌, ◌≢◌, ◌==◌, ◌<◌, ◌≤◌, ◌%◌, ◌&&◌, ◌||◌, ◌↔◌, [], ◌∷◌, IfSome, IsTrue, MatchOption};
 ghost use Rattle.std.specs.Prelude.{MatchResult, drop, false, length, nat_le, not, take, true};
 ghost use Rattle.std.specs.List.{prefix_len};
 ghost use Rattle.lot_simulation.specs.Lines as lines;
@@ -37,6 +37,13 @@ impl<'a> Tokens<'a> {
         } else {
             None
         }
+    }
+
+    /// The same tokens, to be read again.
+    pub(crate) fn again(&self) -> Tokens<'a>
+        ensures { result ≡ self.now }
+    {
+        Tokens { rest: self.rest }
     }
 
     /// No tokens.
@@ -101,6 +108,19 @@ impl<'a> Tokens<'a> {
         }
     }
 
+    /// The tokens after this many; there must be at least as many.
+    pub(crate) fn after(mut self, count: usize) -> Result<Tokens<'a>, InputRefusal>
+        ensures { MatchResult result (λ rest. (rest ≡ drop count self.entry) × (count ≤ length self.entry))
+            (λ e. (e ≡ InputRefusal.BadLine) × (length self.entry < count)) }
+    {
+        for _ in 0..count {
+            let Some(_) = self.next_token() else {
+                return Err(InputRefusal::BadLine);
+            };
+        }
+        Ok(self)
+    }
+
     /// The next two tokens, or `None` if there are fewer.
     pub(crate) fn next_pair(&mut self) -> Option<(&'a [u8], &'a [u8])>
         ensures { MatchOption result (length self.old ≤ 1) (λ pair. self.old ≡ pair.0.now ∷ pair.1.now ∷ self.new) }
@@ -121,7 +141,7 @@ impl<'a> Tokens<'a> {
     pub(crate) fn are_pairs(&self) -> bool
         ensures { IsTrue result ↔ (length self.now % 2 ≡ 0) }
     {
-        let mut left = Tokens { rest: self.rest };
+        let mut left = self.again();
         while left.next_token().is_some() {
             if left.next_token().is_none() {
                 return false;
@@ -134,7 +154,7 @@ impl<'a> Tokens<'a> {
     pub(crate) fn has_len(&self, count: usize) -> bool
         ensures { IsTrue result ↔ (length self.now ≡ count) }
     {
-        let mut left = Tokens { rest: self.rest };
+        let mut left = self.again();
         let mut missing = count;
         while missing > 0 {
             if left.next_token().is_none() {

@@ -4,9 +4,8 @@ mod same;
 mod slices;
 
 use crate::fault_of;
-use lot_machine::{
-    Command, CurrencyRef, Kind, Limits, Name, ScriptTrap, Sizes, TargetRef, ThreadRef,
-};
+use lot_kernel_tests::command_with;
+use lot_machine::{Command, Kind, Limits, Name, ScriptTrap, Sizes, Verb};
 use lot_program::{Commands, Program, Seed};
 use lot_script::Script;
 use lot_simulation::{InputFault, InputRefusal, Options, ScriptLine};
@@ -16,22 +15,9 @@ use std::alloc::Global;
 use std::fmt::Debug;
 use std::process::Abort;
 
-/// A command with its names as texts.
+/// A command: its verb, and its arguments.
 #[derive(Clone, Copy)]
-enum Asked<'a> {
-    MakeTicket(u64, &'a str),
-    RemoveTicket(u64),
-    MakeCurrency(&'a str),
-    RemoveCurrency(&'a str),
-    Fund(u64, &'a str),
-    Unfund(u64),
-    SetTicket(u64, u64),
-    MakeThread(&'a str, u32),
-    RemoveThread(&'a str),
-    Kill(&'a str),
-    MakeFunded(u64, &'a str, &'a str, u32),
-    List(Kind),
-}
+struct Asked<'a>(Verb, &'a str);
 
 /// The expected program of an input.
 struct Said<'a> {
@@ -52,43 +38,8 @@ fn name(rt: &impl Abort, text: &str) -> Name {
     Name::new(text).expect(rt, "it is too long for a name")
 }
 
-fn command(rt: &impl Abort, asked: Asked<'_>) -> Command {
-    match asked {
-        Asked::MakeTicket(amount, text) => {
-            let currency = CurrencyRef::Named(name(rt, text));
-            Command::MakeTicket { amount, currency }
-        }
-        Asked::RemoveTicket(ticket) => Command::RemoveTicket { ticket },
-        Asked::MakeCurrency(text) => Command::MakeCurrency {
-            name: name(rt, text),
-        },
-        Asked::RemoveCurrency(text) => Command::RemoveCurrency {
-            currency: CurrencyRef::Named(name(rt, text)),
-        },
-        Asked::Fund(ticket, text) => {
-            let target = TargetRef::Named(name(rt, text));
-            Command::Fund { ticket, target }
-        }
-        Asked::Unfund(ticket) => Command::Unfund { ticket },
-        Asked::SetTicket(ticket, amount) => Command::SetTicket { ticket, amount },
-        Asked::MakeThread(text, script) => {
-            let name = name(rt, text);
-            Command::MakeThread { name, script }
-        }
-        Asked::RemoveThread(text) => Command::RemoveThread {
-            thread: ThreadRef::Named(name(rt, text)),
-        },
-        Asked::Kill(text) => Command::Kill {
-            thread: ThreadRef::Named(name(rt, text)),
-        },
-        Asked::MakeFunded(amount, issuer, text, script) => Command::MakeFunded {
-            amount,
-            currency: CurrencyRef::Named(name(rt, issuer)),
-            name: name(rt, text),
-            script,
-        },
-        Asked::List(kind) => Command::List(kind),
-    }
+fn command(rt: &impl Abort, Asked(verb, arguments): Asked<'_>) -> Command {
+    command_with(verb, arguments).expect(rt, "a command")
 }
 
 fn sizes_of(limits: Limits) -> Sizes {
@@ -197,12 +148,12 @@ const FIRST_RUN_SAYS: &Said<'static> = &Said {
     turns: 0,
     scripts: &[&[ScriptLine::Compute(1000)]],
     commands: &[
-        Asked::MakeTicket(10, "base"),
-        Asked::MakeThread("a", 1),
-        Asked::Fund(1, "a"),
-        Asked::MakeTicket(18446744073709551615, "base"),
-        Asked::MakeThread("b", 0),
-        Asked::Fund(2, "b"),
+        Asked(Verb::MakeTicket, "10 base"),
+        Asked(Verb::MakeThread, "a 1"),
+        Asked(Verb::Fund, "1 a"),
+        Asked(Verb::MakeTicket, "18446744073709551615 base"),
+        Asked(Verb::MakeThread, "b 0"),
+        Asked(Verb::Fund, "2 b"),
     ],
     schedule: &[0, 0, 0, 1, 1, 0],
     duration: None,
@@ -319,17 +270,17 @@ const WHOLE_GRAMMAR_SAYS: &Said<'static> = &Said {
         &[],
     ],
     commands: &[
-        Asked::MakeTicket(10, "base"),
-        Asked::RemoveTicket(1),
-        Asked::MakeCurrency("a"),
-        Asked::RemoveCurrency("a"),
-        Asked::Fund(3, "a"),
-        Asked::Unfund(2),
-        Asked::MakeThread("abcdefghijklmnop", 2),
-        Asked::MakeFunded(9, "a", "v", 1),
-        Asked::List(Kind::Tickets),
-        Asked::List(Kind::Currencies),
-        Asked::List(Kind::Threads),
+        Asked(Verb::MakeTicket, "10 base"),
+        Asked(Verb::RemoveTicket, "1"),
+        Asked(Verb::MakeCurrency, "a"),
+        Asked(Verb::RemoveCurrency, "a"),
+        Asked(Verb::Fund, "3 a"),
+        Asked(Verb::Unfund, "2"),
+        Asked(Verb::MakeThread, "abcdefghijklmnop 2"),
+        Asked(Verb::MakeFunded, "9 a v 1"),
+        Asked(Verb::List(Kind::Tickets), ""),
+        Asked(Verb::List(Kind::Currencies), ""),
+        Asked(Verb::List(Kind::Threads), ""),
     ],
     schedule: &[0, 0, 2, 1, 0],
     duration: None,
@@ -380,16 +331,16 @@ const TIMED_SAYS: &Said<'static> = &Said {
         ScriptLine::Trap(ScriptTrap::Sleep(1)),
     ]],
     commands: &[
-        Asked::MakeThread("a", 1),
-        Asked::List(Kind::Tickets),
-        Asked::List(Kind::Currencies),
-        Asked::List(Kind::Threads),
-        Asked::SetTicket(3, 0),
-        Asked::SetTicket(0, 18446744073709551615),
-        Asked::RemoveThread("a"),
-        Asked::RemoveThread("0123456789abcdef"),
-        Asked::Kill("a"),
-        Asked::Kill("fedcba9876543210"),
+        Asked(Verb::MakeThread, "a 1"),
+        Asked(Verb::List(Kind::Tickets), ""),
+        Asked(Verb::List(Kind::Currencies), ""),
+        Asked(Verb::List(Kind::Threads), ""),
+        Asked(Verb::SetTicket, "3 0"),
+        Asked(Verb::SetTicket, "0 18446744073709551615"),
+        Asked(Verb::RemoveThread, "a"),
+        Asked(Verb::RemoveThread, "0123456789abcdef"),
+        Asked(Verb::Kill, "a"),
+        Asked(Verb::Kill, "fedcba9876543210"),
     ],
     schedule: &[],
     duration: Some(4294967295),
@@ -466,21 +417,9 @@ fn reads_timed_headers_in_any_order(rt: HostRuntime) {
 }
 
 /// Two tickets have names, and one has none.
-const NAMED: &str = "lottery 3
-for 9
-script s
-endscript
-mktkt 5 base as gift
-fundx 2 base a s as wage
-mktkt 7 base
-fund gift a
-fund 3 a
-at 4
-settkt wage 4
-unfund gift
-rmtkt gift
-lstkt
-";
+const NAMED: &str =
+    "lottery 3\nfor 9\nscript s\nendscript\nmktkt 5 base as gift\nfundx 2 base a s as wage\nmktkt 7 base\n\
+    fund gift a\nfund 3 a\nat 4\nsettkt wage 4\nunfund gift\nrmtkt gift\nlstkt\n";
 
 const NAMED_SAYS: &Said<'static> = &Said {
     sizes: Sizes {
@@ -503,15 +442,15 @@ const NAMED_SAYS: &Said<'static> = &Said {
     turns: 0,
     scripts: &[&[]],
     commands: &[
-        Asked::MakeTicket(5, "base"),
-        Asked::MakeFunded(2, "base", "a", 1),
-        Asked::MakeTicket(7, "base"),
-        Asked::Fund(0, "a"),
-        Asked::Fund(3, "a"),
-        Asked::SetTicket(0, 4),
-        Asked::Unfund(0),
-        Asked::RemoveTicket(0),
-        Asked::List(Kind::Tickets),
+        Asked(Verb::MakeTicket, "5 base"),
+        Asked(Verb::MakeFunded, "2 base a 1"),
+        Asked(Verb::MakeTicket, "7 base"),
+        Asked(Verb::Fund, "0 a"),
+        Asked(Verb::Fund, "3 a"),
+        Asked(Verb::SetTicket, "0 4"),
+        Asked(Verb::Unfund, "0"),
+        Asked(Verb::RemoveTicket, "0"),
+        Asked(Verb::List(Kind::Tickets), ""),
     ],
     schedule: &[],
     duration: Some(9),
@@ -550,11 +489,26 @@ fn reads_or_lacks_memory(rt: HostRuntime) {
     check_read(&rt, rt.alloc(), NAMED);
 }
 
-/// The ends of inputs that are refused on one line, for one reason.
-struct Refusals<'a> {
-    line: u32,
-    refusal: InputRefusal,
-    ends: &'a [&'a str],
+/// The refusal with this name.
+fn refusal_of(name: &str) -> Option<InputRefusal> {
+    match name.as_bytes() {
+        b"BadHeader" => Some(InputRefusal::BadHeader),
+        b"BadLine" => Some(InputRefusal::BadLine),
+        b"BadNumber" => Some(InputRefusal::BadNumber),
+        b"UnknownName" => Some(InputRefusal::UnknownName),
+        b"OpenScript" => Some(InputRefusal::OpenScript),
+        b"TooDeep" => Some(InputRefusal::TooDeep),
+        b"TooLong" => Some(InputRefusal::TooLong),
+        b"BadActor" => Some(InputRefusal::BadActor),
+        _ => None,
+    }
+}
+
+/// The line and the refusal of a row, and the ends of inputs that are refused so, as `2 BadLine: settkt|settkt 1`.
+fn row_of(row: &str) -> Option<(u32, InputRefusal, &str)> {
+    let (head, ends) = row.split_once(": ")?;
+    let (line, name) = head.split_once(' ')?;
+    Some((line.parse::<u32>().ok()?, refusal_of(name)?, ends))
 }
 
 /// The line and the refusal of an input, if it is refused.
@@ -567,44 +521,25 @@ fn check_refused(rt: &impl Abort, alloc: Global, text: &str, line: u32, refusal:
     check_same_at(rt, &text, &refused(rt, alloc, text), &Some((line, refusal)));
 }
 
-/// Checks that inputs with this beginning are refused for each of these ends.
-fn check_ends(rt: &impl Abort, alloc: Global, beginning: &str, wanted: &Refusals<'_>) {
-    for end in wanted.ends {
+/// Checks that inputs with this beginning are refused for each of the row's ends.
+fn check_ends(rt: &impl Abort, alloc: Global, beginning: &str, row: &str) {
+    let (line, refusal, ends) = row_of(row).expect(rt, "a row");
+    for end in ends.split('|') {
         let text = format!(in alloc; "{beginning}{end}").expect(rt, "memory");
-        check_refused(rt, alloc, text.as_str(), wanted.line, wanted.refusal);
+        check_refused(rt, alloc, text.as_str(), line, refusal);
     }
 }
 
-fn check_table(rt: &impl Abort, alloc: Global, beginning: &str, table: &[Refusals<'_>]) {
-    for wanted in table {
-        check_ends(rt, alloc, beginning, wanted);
+fn check_table(rt: &impl Abort, alloc: Global, beginning: &str, table: &[&str]) {
+    for row in table {
+        check_ends(rt, alloc, beginning, row);
     }
 }
 
-const FIRST_LINES: &[Refusals<'static>] = &[
-    Refusals {
-        line: 1,
-        refusal: InputRefusal::BadHeader,
-        ends: &[
-            "",
-            "lottery",
-            "lottery 01",
-            "lottery 1 1",
-            "lottery 3",
-            "lottery 4",
-            "quantum 5",
-        ],
-    },
-    Refusals {
-        line: 2,
-        refusal: InputRefusal::BadHeader,
-        ends: &["\n\n"],
-    },
-    Refusals {
-        line: 1,
-        refusal: InputRefusal::BadLine,
-        ends: &["\t", "lottery 1\r"],
-    },
+const FIRST_LINES: &[&str] = &[
+    "1 BadHeader: |lottery|lottery 01|lottery 1 1|lottery 3|lottery 4|quantum 5",
+    "2 BadHeader: \n\n",
+    "1 BadLine: \t|lottery 1\r",
 ];
 
 #[test]
@@ -612,52 +547,14 @@ fn refuses_first_lines(rt: HostRuntime) {
     check_table(&rt, rt.alloc(), "", FIRST_LINES);
 }
 
-const REFUSED_HEADERS: &[Refusals<'static>] = &[
-    Refusals {
-        line: 2,
-        refusal: InputRefusal::BadHeader,
-        ends: &["lottery 1"],
-    },
-    Refusals {
-        line: 3,
-        refusal: InputRefusal::BadHeader,
-        ends: &[
-            "quantum 5\nquantum x y",
-            "seed 1\nquantum 5",
-            "schedule 0\nseed 1",
-            "quantum 10\nprocessors 2",
-        ],
-    },
-    Refusals {
-        line: 4,
-        refusal: InputRefusal::BadHeader,
-        ends: &["script s\nendscript\nlimits 1 1 1"],
-    },
-    Refusals {
-        line: 2,
-        refusal: InputRefusal::BadLine,
-        ends: &["quantum", "seed 1 2", "seed", "limits 1 1"],
-    },
-    Refusals {
-        line: 3,
-        refusal: InputRefusal::BadLine,
-        ends: &["processors 2\nseed 1"],
-    },
-    Refusals {
-        line: 2,
-        refusal: InputRefusal::BadNumber,
-        ends: &[
-            "processors 65",
-            "turns 10001",
-            "quantum 1001",
-            "quantum 0",
-            "seed 0",
-            "seed 2147483647",
-            "limits 65536 1 1",
-            "limits 1 4097 1",
-            "limits 1 1 0",
-        ],
-    },
+const REFUSED_HEADERS: &[&str] = &[
+    "2 BadHeader: lottery 1",
+    "3 BadHeader: quantum 5\nquantum x y|seed 1\nquantum 5|schedule 0\nseed 1|quantum 10\nprocessors 2",
+    "4 BadHeader: script s\nendscript\nlimits 1 1 1",
+    "2 BadLine: quantum|seed 1 2|seed|limits 1 1",
+    "3 BadLine: processors 2\nseed 1",
+    "2 BadNumber: processors 65|turns 10001|quantum 1001|quantum 0|seed 0|seed 2147483647|limits 65536 1 1\
+    |limits 1 4097 1|limits 1 1 0",
 ];
 
 #[test]
@@ -665,86 +562,18 @@ fn refuses_headers(rt: HostRuntime) {
     check_table(&rt, rt.alloc(), "lottery 1\n", REFUSED_HEADERS);
 }
 
-const REFUSED_BODIES: &[Refusals<'static>] = &[
-    Refusals {
-        line: 2,
-        refusal: InputRefusal::BadLine,
-        ends: &[
-            "lstkt 1",
-            "mutex M",
-            "compute 5",
-            "mktkt 1",
-            "mktkt 1 base #",
-            "schedule",
-            "script S",
-            "runs 0 1",
-            "for 5",
-            "at 5",
-            "settkt 1 5",
-            "settkt 1",
-            "settkt x 5",
-            "rmthr a",
-            "rmthr",
-            "kill a",
-            "kill",
-        ],
-    },
-    Refusals {
-        line: 3,
-        refusal: InputRefusal::BadLine,
-        ends: &[
-            "port a\nport a",
-            "script spin\ncompu",
-            "script spin\ncompute",
-            "script s\nyield 1",
-            "script s\nsleep 5",
-            "script s\nscript t",
-            "script s\nquantum 5",
-            "script s\nendscript 1",
-        ],
-    },
-    Refusals {
-        line: 4,
-        refusal: InputRefusal::BadLine,
-        ends: &["script s\nendscript\nscript s"],
-    },
-    Refusals {
-        line: 2,
-        refusal: InputRefusal::TooLong,
-        ends: &[
-            "port Bcdefghijklmnopqr",
-            "fundx 1 base a abcdefghijklmnopq",
-            "mktkt 1 abcdefghijklmnopq",
-            "fund 1 abcdefghijklmnopq",
-            "mkthr abcdefghijklmnopq none",
-            "mkthr a abcdefghijklmnopq",
-            "script abcdefghijklmnopq",
-        ],
-    },
-    Refusals {
-        line: 2,
-        refusal: InputRefusal::BadNumber,
-        ends: &[
-            "mktkt 007 base",
-            "mktkt 18446744073709551616 base",
-            "schedule 007 99",
-        ],
-    },
-    Refusals {
-        line: 3,
-        refusal: InputRefusal::BadNumber,
-        ends: &["script s\ncompute 0", "script s\ncompute 4294967296"],
-    },
-    Refusals {
-        line: 2,
-        refusal: InputRefusal::BadActor,
-        ends: &["schedule 0 2", "schedule 99 007"],
-    },
-    Refusals {
-        line: 2,
-        refusal: InputRefusal::OpenScript,
-        ends: &["script s\ncompute 5\n"],
-    },
+const REFUSED_BODIES: &[&str] = &[
+    "2 BadLine: lstkt 1|mutex M|compute 5|mktkt 1|mktkt 1 base #|schedule|script S|runs 0 1|for 5|at 5|settkt 1 5\
+    |settkt 1|settkt x 5|rmthr a|rmthr|kill a|kill",
+    "3 BadLine: port a\nport a|script spin\ncompu|script spin\ncompute|script s\nyield 1|script s\nsleep 5\
+    |script s\nscript t|script s\nquantum 5|script s\nendscript 1",
+    "4 BadLine: script s\nendscript\nscript s",
+    "2 TooLong: port Bcdefghijklmnopqr|fundx 1 base a abcdefghijklmnopq|mktkt 1 abcdefghijklmnopq\
+    |fund 1 abcdefghijklmnopq|mkthr abcdefghijklmnopq none|mkthr a abcdefghijklmnopq|script abcdefghijklmnopq",
+    "2 BadNumber: mktkt 007 base|mktkt 18446744073709551616 base|schedule 007 99",
+    "3 BadNumber: script s\ncompute 0|script s\ncompute 4294967296",
+    "2 BadActor: schedule 0 2|schedule 99 007",
+    "2 OpenScript: script s\ncompute 5\n",
 ];
 
 #[test]
@@ -755,49 +584,14 @@ fn refuses_bodies(rt: HostRuntime) {
 /// The call and its reply, up to a line of the server's script.
 const CALL: &str = "lottery 1\nquantum 10\nport p\nscript srv\n";
 
-const REFUSED_SCRIPTS: &[Refusals<'static>] = &[
-    Refusals {
-        line: 4,
-        refusal: InputRefusal::OpenScript,
-        ends: &["receive p"],
-    },
-    Refusals {
-        line: 5,
-        refusal: InputRefusal::BadLine,
-        ends: &[
-            "recei",
-            "receive",
-            "end",
-            "port q",
-            "serve p",
-            "yield yield",
-        ],
-    },
-    Refusals {
-        line: 5,
-        refusal: InputRefusal::UnknownName,
-        ends: &["call q", "lock p"],
-    },
-    Refusals {
-        line: 5,
-        refusal: InputRefusal::TooLong,
-        ends: &["call abcdefghijklmnopq"],
-    },
-    Refusals {
-        line: 5,
-        refusal: InputRefusal::BadNumber,
-        ends: &["set 4294967296", "loop 0", "loop 65536"],
-    },
-    Refusals {
-        line: 6,
-        refusal: InputRefusal::BadLine,
-        ends: &["loop 2\nendscript"],
-    },
-    Refusals {
-        line: 13,
-        refusal: InputRefusal::TooDeep,
-        ends: &["loop 1\nloop 1\nloop 1\nloop 1\nloop 1\nloop 1\nloop 1\nloop 1\nloop 1"],
-    },
+const REFUSED_SCRIPTS: &[&str] = &[
+    "4 OpenScript: receive p",
+    "5 BadLine: recei|receive|end|port q|serve p|yield yield",
+    "5 UnknownName: call q|lock p",
+    "5 TooLong: call abcdefghijklmnopq",
+    "5 BadNumber: set 4294967296|loop 0|loop 65536",
+    "6 BadLine: loop 2\nendscript",
+    "13 TooDeep: loop 1\nloop 1\nloop 1\nloop 1\nloop 1\nloop 1\nloop 1\nloop 1\nloop 1",
 ];
 
 #[test]
@@ -805,37 +599,12 @@ fn refuses_scripts(rt: HostRuntime) {
     check_table(&rt, rt.alloc(), CALL, REFUSED_SCRIPTS);
 }
 
-const REFUSED_RUNS: &[Refusals<'static>] = &[
-    Refusals {
-        line: 2,
-        refusal: InputRefusal::BadLine,
-        ends: &[
-            "runs 0",
-            "runs",
-            "settkt 1 5",
-            "settkt",
-            "settkt 007 5",
-            "rmthr a",
-            "rmthr abcdefghijklmnopq",
-            "kill a",
-            "kill abcdefghijklmnopq",
-        ],
-    },
-    Refusals {
-        line: 2,
-        refusal: InputRefusal::BadNumber,
-        ends: &["runs 0 0"],
-    },
-    Refusals {
-        line: 2,
-        refusal: InputRefusal::BadActor,
-        ends: &["runs 2 1"],
-    },
-    Refusals {
-        line: 2,
-        refusal: InputRefusal::TooLong,
-        ends: &["runs 0 1000000 0 1"],
-    },
+const REFUSED_RUNS: &[&str] = &[
+    "2 BadLine: runs 0|runs|settkt 1 5|settkt|settkt 007 5|rmthr a|rmthr abcdefghijklmnopq|kill a\
+    |kill abcdefghijklmnopq",
+    "2 BadNumber: runs 0 0",
+    "2 BadActor: runs 2 1",
+    "2 TooLong: runs 0 1000000 0 1",
 ];
 
 #[test]
@@ -844,129 +613,30 @@ fn refuses_runs(rt: HostRuntime) {
 }
 
 /// Header lines of a timed input.
-const REFUSED_DURATIONS: &[Refusals<'static>] = &[
-    Refusals {
-        line: 2,
-        refusal: InputRefusal::BadHeader,
-        ends: &[
-            "quantum 5",
-            "port p",
-            "seed 1\n",
-            "at 0",
-            "settkt 1 5",
-            "rmthr a",
-            "kill a",
-        ],
-    },
-    Refusals {
-        line: 3,
-        refusal: InputRefusal::BadHeader,
-        ends: &[
-            "for 5\nfor 5",
-            "for 5\nlottery 3",
-            "quantum 5\nport p",
-            "seed 1\nprocessors x",
-        ],
-    },
-    Refusals {
-        line: 4,
-        refusal: InputRefusal::BadHeader,
-        ends: &[
-            "turns 5\nfor 5\nturns x y",
-            "for 5\nport p\nturns 5",
-            "seed 1\nfor 5\nprocessors 1",
-        ],
-    },
-    Refusals {
-        line: 2,
-        refusal: InputRefusal::BadNumber,
-        ends: &["for 0", "for 4294967296"],
-    },
+const REFUSED_DURATIONS: &[&str] = &[
+    "2 BadHeader: quantum 5|port p|seed 1\n|at 0|settkt 1 5|rmthr a|kill a",
+    "3 BadHeader: for 5\nfor 5|for 5\nlottery 3|quantum 5\nport p|seed 1\nprocessors x",
+    "4 BadHeader: turns 5\nfor 5\nturns x y|for 5\nport p\nturns 5|seed 1\nfor 5\nprocessors 1",
+    "2 BadNumber: for 0|for 4294967296",
 ];
 
 /// Lines after the header.
-const REFUSED_TIMES: &[Refusals<'static>] = &[
-    Refusals {
-        line: 3,
-        refusal: InputRefusal::BadLine,
-        ends: &[
-            "schedule 0",
-            "schedule 2",
-            "runs 0 1",
-            "at",
-            "at 1 2",
-            "settkt",
-            "settkt 1",
-            "settkt 1 2 3",
-            "settkt 1 2 #",
-            "rmthr",
-            "rmthr a b",
-            "rmthr a #",
-            "kill",
-            "kill a b",
-            "kill a #",
-        ],
-    },
-    Refusals {
-        line: 3,
-        refusal: InputRefusal::TooLong,
-        ends: &["rmthr abcdefghijklmnopq", "kill abcdefghijklmnopq"],
-    },
-    Refusals {
-        line: 3,
-        refusal: InputRefusal::BadNumber,
-        ends: &[
-            "at 4294967296",
-            "at x",
-            "settkt 18446744073709551616 5",
-            "settkt 1 18446744073709551616",
-            "settkt 007 5",
-            "settkt 1 -5",
-            "settkt X 5",
-        ],
-    },
-    Refusals {
-        line: 4,
-        refusal: InputRefusal::BadNumber,
-        ends: &["at 7\nat 6"],
-    },
-    Refusals {
-        line: 4,
-        refusal: InputRefusal::UnknownName,
-        ends: &["script s\nserve p"],
-    },
+const REFUSED_TIMES: &[&str] = &[
+    "3 BadLine: schedule 0|schedule 2|runs 0 1|at|at 1 2|settkt|settkt 1|settkt 1 2 3|settkt 1 2 #|rmthr|rmthr a b\
+    |rmthr a #|kill|kill a b|kill a #",
+    "3 TooLong: rmthr abcdefghijklmnopq|kill abcdefghijklmnopq",
+    "3 BadNumber: at 4294967296|at x|settkt 18446744073709551616 5|settkt 1 18446744073709551616|settkt 007 5\
+    |settkt 1 -5|settkt X 5",
+    "4 BadNumber: at 7\nat 6",
+    "4 UnknownName: script s\nserve p",
 ];
 
 /// Lines of a script, which may have several words.
-const REFUSED_PHRASES: &[Refusals<'static>] = &[
-    Refusals {
-        line: 5,
-        refusal: InputRefusal::BadLine,
-        ends: &[
-            "yield compute",
-            "compute 5 7",
-            "yield end",
-            "loop 2 endscript",
-            "endscript yield",
-            "yield sleep",
-            "sleep 5 7",
-        ],
-    },
-    Refusals {
-        line: 5,
-        refusal: InputRefusal::BadNumber,
-        ends: &["yield compute 0 nonsense", "sleep 0", "sleep 4294967296"],
-    },
-    Refusals {
-        line: 5,
-        refusal: InputRefusal::UnknownName,
-        ends: &["yield lock yield"],
-    },
-    Refusals {
-        line: 5,
-        refusal: InputRefusal::TooDeep,
-        ends: &["loop 1 loop 1 loop 1 loop 1 loop 1 loop 1 loop 1 loop 1 loop 1"],
-    },
+const REFUSED_PHRASES: &[&str] = &[
+    "5 BadLine: yield compute|compute 5 7|yield end|loop 2 endscript|endscript yield|yield sleep|sleep 5 7",
+    "5 BadNumber: yield compute 0 nonsense|sleep 0|sleep 4294967296",
+    "5 UnknownName: yield lock yield",
+    "5 TooDeep: loop 1 loop 1 loop 1 loop 1 loop 1 loop 1 loop 1 loop 1 loop 1",
 ];
 
 #[test]
@@ -986,59 +656,18 @@ fn refuses_times(rt: HostRuntime) {
 }
 
 /// Lines after one that names a ticket `gift`.
-const REFUSED_NAMES: &[Refusals<'static>] = &[
-    Refusals {
-        line: 4,
-        refusal: InputRefusal::UnknownName,
-        ends: &[
-            "rmtkt gitf",
-            "unfund abcdefghijklmnopq",
-            "settkt wage 5\nmktkt 5 base as wage",
-            "fund a gift",
-        ],
-    },
-    Refusals {
-        line: 4,
-        refusal: InputRefusal::BadNumber,
-        ends: &[
-            "unfund Gift",
-            "rmtkt 01",
-            "settkt gift five",
-            "mktkt 05 base as Gift",
-        ],
-    },
-    Refusals {
-        line: 4,
-        refusal: InputRefusal::BadLine,
-        ends: &[
-            "mktkt 5 base as gift",
-            "fundx 5 base a s as gift",
-            "mktkt 5 base as Wage",
-            "mktkt 05 base is wage",
-            "mktkt 5 base as",
-            "fundx 5 base a s as",
-            "fundx 5 base a s as wage now",
-        ],
-    },
-    Refusals {
-        line: 4,
-        refusal: InputRefusal::TooLong,
-        ends: &["mktkt 5 base as abcdefghijklmnopq"],
-    },
+const REFUSED_NAMES: &[&str] = &[
+    "4 UnknownName: rmtkt gitf|unfund abcdefghijklmnopq|settkt wage 5\nmktkt 5 base as wage|fund a gift",
+    "4 BadNumber: unfund Gift|rmtkt 01|settkt gift five|mktkt 05 base as Gift",
+    "4 BadLine: mktkt 5 base as gift|fundx 5 base a s as gift|mktkt 5 base as Wage|mktkt 05 base is wage\
+    |mktkt 5 base as|fundx 5 base a s as|fundx 5 base a s as wage now",
+    "4 TooLong: mktkt 5 base as abcdefghijklmnopq",
 ];
 
 /// The lines in the other formats.
-const NAMES_OF_OTHERS: &[Refusals<'static>] = &[
-    Refusals {
-        line: 2,
-        refusal: InputRefusal::BadLine,
-        ends: &["mktkt 5 base as gift", "fundx 5 base a s as gift"],
-    },
-    Refusals {
-        line: 3,
-        refusal: InputRefusal::BadNumber,
-        ends: &["mkcur gift\nrmtkt gift"],
-    },
+const NAMES_OF_OTHERS: &[&str] = &[
+    "2 BadLine: mktkt 5 base as gift|fundx 5 base a s as gift",
+    "3 BadNumber: mkcur gift\nrmtkt gift",
 ];
 
 #[test]
@@ -1050,27 +679,15 @@ fn refuses_names_of_tickets(rt: HostRuntime) {
     check_table(&rt, alloc, "lottery 2\n", NAMES_OF_OTHERS);
 }
 
-/// Inputs, each with the line that is refused and the refusal.
-const REFUSED_STRICT: &[(&str, u32, InputRefusal)] = &[
-    ("lottery 2\nstrict", 2, InputRefusal::BadLine),
-    ("lottery 3\nfor 5\nstrict 1", 3, InputRefusal::BadLine),
-    (
-        "lottery 3\nstrict\nfor 5\nstrict",
-        4,
-        InputRefusal::BadHeader,
-    ),
-    (
-        "lottery 3\nfor 5\nlstkt\nstrict",
-        4,
-        InputRefusal::BadHeader,
-    ),
+const REFUSED_STRICT: &[&str] = &[
+    "2 BadLine: lottery 2\nstrict",
+    "3 BadLine: lottery 3\nfor 5\nstrict 1",
+    "4 BadHeader: lottery 3\nstrict\nfor 5\nstrict|lottery 3\nfor 5\nlstkt\nstrict",
 ];
 
 #[test]
 fn refuses_strict(rt: HostRuntime) {
-    for (text, line, refusal) in REFUSED_STRICT {
-        check_refused(&rt, rt.alloc(), text, *line, *refusal);
-    }
+    check_table(&rt, rt.alloc(), "", REFUSED_STRICT);
 }
 
 /// A first line, and then a line of this many bytes.

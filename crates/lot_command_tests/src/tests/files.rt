@@ -14,14 +14,8 @@ use std::thread::Threads;
 const STANDARD: &str = "lottery 1\n";
 
 /// The input in the file `x.lot`.
-const FILED: &str = "lottery 1
-quantum 2
-script spin
-compute 9
-endscript
-fundx 1 base a spin
-schedule 0 1 1 1 1
-";
+const FILED: &str =
+    "lottery 1\nquantum 2\nscript spin\ncompute 9\nendscript\nfundx 1 base a spin\nschedule 0 1 1 1 1\n";
 
 const PLAYED: &str = "0 funded 1 1
 1 draw 0 of 1 thread 1
@@ -256,19 +250,8 @@ fn refused_file(rt: HostRuntime) {
 }
 
 /// An input with eleven faults.
-const ELEVEN: &str = "lottery 1
-lsthr 1
-lsthr 1
-lsthr 1
-lsthr 1
-lsthr 1
-lsthr 1
-lsthr 1
-lsthr 1
-lsthr 1
-lsthr 1
-lsthr 1
-";
+const ELEVEN: &str =
+    "lottery 1\nlsthr 1\nlsthr 1\nlsthr 1\nlsthr 1\nlsthr 1\nlsthr 1\nlsthr 1\nlsthr 1\nlsthr 1\nlsthr 1\nlsthr 1\n";
 
 #[test]
 fn more_faults_of_a_file(rt: HostRuntime) {
@@ -286,18 +269,9 @@ fn more_faults_of_a_file(rt: HostRuntime) {
 }
 
 /// A refused command, an unlock of another's mutex, a thread that weighs nothing and a command after the end.
-const WARNED: &str = "lottery 3
-for 20
-quantum 10
-mutex m
-script s
-unlock m compute 90 endscript
-mkthr a s
-rmtkt 7
-fundx 1 base b s
-at 21
-mkcur c
-";
+const WARNED: &str =
+    "lottery 3\nfor 20\nquantum 10\nmutex m\nscript s\nunlock m compute 90 endscript\nmkthr a s\nrmtkt 7\n\
+    fundx 1 base b s\nat 21\nmkcur c\n";
 
 const WARNINGS: &str = "x.lot:8: the command was refused: no ticket has the number 7
 x.lot:11: this command was never made: tick 21 is after the end of the run at 20

@@ -14,16 +14,7 @@ use std::thread::Threads;
 
 /// An unknown name, misspelt words, a wrong number of words, and a processor above the last.
 const OF_FIRST: (&str, &str) = (
-    "lottery 1
-port disk
-script s
-call disc
-comptue 5
-endscript
-mktk 5 base
-fund 1 a b
-schedule 0 2
-",
+    "lottery 1\nport disk\nscript s\ncall disc\ncomptue 5\nendscript\nmktk 5 base\nfund 1 a b\nschedule 0 2\n",
     "line 4: 'disc' is no port of an earlier line; did you mean 'disk'?
 line 5: 'comptue' is no word of a script; did you mean 'compute'?
 line 7: 'mktk' is no body line; did you mean 'mktkt'?
@@ -34,15 +25,8 @@ line 9: '2': the last processor is 1, and 0 is the console
 
 /// Comments and empty lines count as lines, and a line may begin with spaces.
 const OF_SECOND: (&str, &str) = (
-    "lottery 2
-mkcur alice
-mktkt 05 base
-# a comment
-  fundx 10 base a_name_of_17_bytes s
-
-runs 0 6 1
-runs 0 0
-",
+    "lottery 2\nmkcur alice\nmktkt 05 base\n# a comment\n  fundx 10 base a_name_of_17_bytes s\n\nruns 0 6 1\n\
+    runs 0 0\n",
     "line 3: '05' is no number from 1 to 4294967295: a number has digits alone, no sign, no fraction and no 0 before \
      others
 line 5: 'a_name_of_17_bytes' has 18 bytes, and a name at most 16
@@ -53,18 +37,8 @@ line 8: '0' is no number from 1 to 1000000
 
 /// Several words on a line of a script, and a time that falls.
 const OF_THIRD: (&str, &str) = (
-    "lottery 3
-for 50
-mutex m
-script s
-yield lock n compute 5
-compute 0
-endscript
-at 9
-fundx 1 base a
-at 3
-settkt 1
-",
+    "lottery 3\nfor 50\nmutex m\nscript s\nyield lock n compute 5\ncompute 0\nendscript\nat 9\nfundx 1 base a\n\
+    at 3\nsettkt 1\n",
     "line 5: 'n' is no mutex of an earlier line
 line 6: '0' is no number from 1 to 4294967295
 line 9: this line is written 'fundx AMOUNT CURRENCY NAME SCRIPT [as NAME]', and here are 4 words
@@ -75,25 +49,14 @@ line 11: this line is written 'settkt TICKET AMOUNT', and here are 2 words
 
 /// Without the line that opens the script each of its lines would be refused.
 const WITHOUT_SCRIPT: (&str, &str) = (
-    "lottery 1
-mktk 5 base
-script S
-comptue 5
-endscript
-mktk 5 base
-",
+    "lottery 1\nmktk 5 base\nscript S\ncomptue 5\nendscript\nmktk 5 base\n",
     "line 2: 'mktk' is no body line; did you mean 'mktkt'?
 line 3: 'S' is no name: a letter a to z, and then letters a to z, digits, '_' or '-'
 ",
 );
 
 /// The last line has a fault and no line feed.
-const AT_THE_END: (&str, &str) = (
-    "lottery 1
-mktk 5 base
-mkcur",
-    AT_THE_END_TOLD,
-);
+const AT_THE_END: (&str, &str) = ("lottery 1\nmktk 5 base\nmkcur", AT_THE_END_TOLD);
 
 const AT_THE_END_TOLD: &str = "line 2: 'mktk' is no body line; did you mean 'mktkt'?
 line 3: this line is written 'mkcur NAME', and here is 1 word
@@ -111,11 +74,8 @@ line 2: this script isn't closed: 'endscript' closes it
 
 /// Without its second line the input ends with the header.
 const WITHOUT_DURATION: (&str, &str) = (
-    "lottery 3
-nonsense
-",
-    "line 2: 'nonsense' is no body line; these begin with at, settkt, rmthr, kill, port, mutex, script, mktkt, rmtkt, \
-     mkcur, rmcur, fund, unfund, mkthr, fundx, lstkt, lscur, lsthr
+    "lottery 3\nmktk\n",
+    "line 2: 'mktk' is no body line; did you mean 'mktkt'?
 line 2: the header doesn't say how long the input runs: 'for TICKS' comes before the first body line
 ",
 );
@@ -154,18 +114,8 @@ fn one_refused_line(rt: HostRuntime) {
 }
 
 /// An input with ten faults.
-const TEN: &str = "lottery 1
-rmtkt
-rmtkt a
-rmtkt 1 2
-rmcur
-mkcur
-mkthr a
-unfund
-lstkt 1
-lscur 1
-lsthr 1
-";
+const TEN: &str =
+    "lottery 1\nrmtkt\nrmtkt a\nrmtkt 1 2\nrmcur\nmkcur\nmkthr a\nunfund\nlstkt 1\nlscur 1\nlsthr 1\n";
 
 const TEN_TOLD: &str = "line 2: this line is written 'rmtkt TICKET', and here is 1 word
 line 3: 'a' is no number; this line is written 'rmtkt TICKET'

@@ -14,9 +14,7 @@ use std::thread::Threads;
 static RUNS: [Row; 5] = [
     (
         &["lot_sim", "run"],
-        "lottery 1
-turns 3
-",
+        "lottery 1\nturns 3\n",
         0,
         "report
 processor 1 quanta 0 idle 3 ticks 0
@@ -26,9 +24,7 @@ schedule 1 1 1
     ),
     (
         &["lot_sim", "run"],
-        "lottery 1
-turns 0
-",
+        "lottery 1\nturns 0\n",
         0,
         "report
 processor 1 quanta 0 idle 0 ticks 0
@@ -37,9 +33,7 @@ total turns 0 quanta 0 ticks 0
     ),
     (
         &["lot_sim", "run"],
-        "lottery 2
-turns 3
-",
+        "lottery 2\nturns 3\n",
         0,
         "report
 processor 1 quanta 0 idle 3 ticks 0
@@ -49,18 +43,14 @@ runs 1 3
     ),
     (
         &["lot_sim", "run"],
-        "lottery 1
-turns 10001
-",
+        "lottery 1\nturns 10001\n",
         1,
         "refused line 2 52 BadNumber
 ",
     ),
     (
         &["lot_sim", "run"],
-        "lottery 1
-schedule 0 2
-",
+        "lottery 1\nschedule 0 2\n",
         1,
         "refused line 2 57 BadActor
 ",
@@ -88,58 +78,19 @@ fn written<H: Abort + Threads + Wait + Sync>(
 /// Programs whose workers have turns to make, with a word of the last lines of their runs.
 const PROGRAMS: &[(&str, &str)] = &[
     (
-        "lottery 1
-processors 2
-turns 2
-script spin
-compute 150
-endscript
-fundx 10 base a spin
-",
+        "lottery 1\nprocessors 2\nturns 2\nscript spin\ncompute 150\nendscript\nfundx 10 base a spin\n",
         "total turns 5 ",
     ),
     (
-        "lottery 1
-processors 8
-quantum 10
-turns 40
-port p
-mutex m
-script server
-loop 1000
-receive p
-lock m
-compute 3
-unlock m
-reply
-end
-endscript
-script client
-loop 1000
-call p
-lock m
-compute 2
-unlock m
-end
-endscript
-fundx 5 base s server
-fundx 7 base c client
-fundx 2 base d client
-fundx 3 base e client
-",
+        "lottery 1\nprocessors 8\nquantum 10\nturns 40\nport p\nmutex m\n\
+        script server\nloop 1000\nreceive p\nlock m\ncompute 3\nunlock m\nreply\nend\nendscript\n\
+        script client\nloop 1000\ncall p\nlock m\ncompute 2\nunlock m\nend\nendscript\nfundx 5 base s server\n\
+        fundx 7 base c client\nfundx 2 base d client\nfundx 3 base e client\n",
         "total turns 324 ",
     ),
     (
-        "lottery 2
-processors 64
-turns 20
-script spin
-compute 1000
-endscript
-fundx 1 base a spin
-fundx 2 base b spin
-fundx 3 base c spin
-",
+        "lottery 2\nprocessors 64\nturns 20\nscript spin\ncompute 1000\nendscript\nfundx 1 base a spin\n\
+        fundx 2 base b spin\nfundx 3 base c spin\n",
         "total turns 1283 ",
     ),
 ];
@@ -187,30 +138,13 @@ fn a_run_is_played_back(rt: HostRuntime) {
 }
 
 /// Two processors and one thread, which sleeps in each round of its loop.
-const SLEEPS: &str = "lottery 3
-processors 2
-quantum 10
-turns 40
-for 1
-script s
-loop 1000 compute 3 sleep 4294967295 end
-endscript
-fundx 1 base a s
-";
+const SLEEPS: &str = "lottery 3\nprocessors 2\nquantum 10\nturns 40\nfor 1\n\
+    script s\nloop 1000 compute 3 sleep 4294967295 end\nendscript\nfundx 1 base a s\n";
 
 /// The same thread in a format without `sleep`. It yields in each round.
-const YIELDS: &str = "lottery 2
-processors 2
-quantum 10
-turns 40
-script s
-loop 1000
-compute 3
-yield
-end
-endscript
-fundx 1 base a s
-";
+const YIELDS: &str =
+    "lottery 2\nprocessors 2\nquantum 10\nturns 40\nscript s\nloop 1000\ncompute 3\nyield\nend\nendscript\n\
+    fundx 1 base a s\n";
 
 // A run has no time, so it takes each sleep as a yield. The one thread wins each draw for which it is ready, whatever
 // the numbers drawn are.

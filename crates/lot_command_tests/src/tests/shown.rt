@@ -9,28 +9,13 @@ use std::sync::Wait;
 use std::thread::Threads;
 
 /// Thread `a` has the only ticket: it wins both draws, and runs for two quanta of 2 ticks.
-const INPUT: &str = "lottery 1
-quantum 2
-script spin
-compute 9
-endscript
-mktkt 1 base
-mkthr a spin
-fund 1 a
-mkthr b spin
-schedule 0 0 0 0 1 1 1 1
-";
+const INPUT: &str =
+    "lottery 1\nquantum 2\nscript spin\ncompute 9\nendscript\nmktkt 1 base\nmkthr a spin\nfund 1 a\nmkthr b spin\n\
+    schedule 0 0 0 0 1 1 1 1\n";
 
 /// The input as a timed one.
-const TIMED: &str = "lottery 3
-quantum 2
-for 4
-script spin
-compute 9
-endscript
-fundx 1 base a spin
-mkthr b spin
-";
+const TIMED: &str =
+    "lottery 3\nquantum 2\nfor 4\nscript spin\ncompute 9\nendscript\nfundx 1 base a spin\nmkthr b spin\n";
 
 /// The table of both.
 const TICKS: &str = "tick,a,b\n0,0,0\n1,1,0\n2,2,0\n3,3,0\n4,4,0\n";
@@ -118,21 +103,9 @@ ticks_mean,ticks_least,ticks_most,share_percent_mean,share_percent_least,share_p
 ";
 
 /// An input in which base funds `alice`, `alice` funds `task`, and `task` the only thread that runs.
-const CURRENCIES: &str = "lottery 3
-quantum 2
-for 4
-script spin
-compute 9
-endscript
-mkcur alice
-mkcur task
-mktkt 3 base
-fund 1 alice
-mktkt 1 alice
-fund 2 task
-fundx 1 task a spin
-mkthr b spin
-";
+const CURRENCIES: &str =
+    "lottery 3\nquantum 2\nfor 4\nscript spin\ncompute 9\nendscript\nmkcur alice\nmkcur task\nmktkt 3 base\n\
+    fund 1 alice\nmktkt 1 alice\nfund 2 task\nfundx 1 task a spin\nmkthr b spin\n";
 
 /// The table of its currencies.
 const CURRENCY_TABLE: &str = "currency,name,ticks,share_percent,due_percent
@@ -234,20 +207,9 @@ fn several_plays(rt: HostRuntime) {
 }
 
 /// Threads `a` and `b` are worth 1 each, and `a` exits in its first tick.
-const DIFFERENT: &str = "lottery 3
-quantum 2
-for 3
-script brief
-endscript
-script spin
-compute 9
-endscript
-mkcur g
-mktkt 1 base
-fund 1 g
-fundx 1 g a brief
-fundx 1 base b spin
-";
+const DIFFERENT: &str =
+    "lottery 3\nquantum 2\nfor 3\nscript brief\nendscript\nscript spin\ncompute 9\nendscript\nmkcur g\n\
+    mktkt 1 base\nfund 1 g\nfundx 1 g a brief\nfundx 1 base b spin\n";
 
 /// The report over three plays. A draw of both is of 512 units, and the first 256 are `a`'s. Modulo 512 the generator
 /// gives 265 and then 355 for seed 1, 11 for seed 2, and 270 and then 25 for seed 3, so the plays are:
@@ -527,23 +489,9 @@ fn explained(rt: HostRuntime) {
 }
 
 /// Two threads share a currency's value as 3 to 1. Its third ticket funds nothing.
-const FUNDED: &str = "lottery 3
-quantum 9
-for 4
-seed 2
-mutex m
-script hold
-lock m
-compute 1
-yield
-endscript
-mkcur g
-mktkt 3 base
-fund 1 g
-fundx 3 g a hold
-fundx 1 g b hold
-mktkt 5 g
-";
+const FUNDED: &str =
+    "lottery 3\nquantum 9\nfor 4\nseed 2\nmutex m\nscript hold\nlock m\ncompute 1\nyield\nendscript\nmkcur g\n\
+    mktkt 3 base\nfund 1 g\nfundx 3 g a hold\nfundx 1 g b hold\nmktkt 5 g\n";
 
 /// Its explanation with the funding, computed by a small model of the rules.
 const EXPLAINED_FUNDING: &str = "0 0 currency 1
@@ -607,17 +555,8 @@ fn explained_funding(rt: HostRuntime) {
 /// An input of three threads and two processors, with this line of seeds, or none if it is empty.
 fn with_seeds(rt: &impl Abort, alloc: Global, seeds: &str) -> String {
     format!(in alloc;
-        "lottery 3
-processors 2
-quantum 2
-for 20
-{seeds}script spin
-compute 900
-endscript
-fundx 2 base a spin
-fundx 1 base b spin
-fundx 1 base c spin
-"
+        "lottery 3\nprocessors 2\nquantum 2\nfor 20\n{seeds}script spin\ncompute 900\nendscript\n\
+        fundx 2 base a spin\nfundx 1 base b spin\nfundx 1 base c spin\n"
     )
     .expect(rt, "memory")
 }

@@ -4,9 +4,7 @@ use super::check_plays;
 
 /// Nothing to do.
 const IDLE: (&str, &str) = (
-    "lottery 3
-for 10
-",
+    "lottery 3\nfor 10\n",
     "0 1 idle
 report
 processor 1 quanta 0 idle 1 ticks 0 unused 10
@@ -16,14 +14,7 @@ total turns 1 quanta 0 ticks 0 refused 0 left 0
 
 /// Two threads that compute.
 const SPINNERS: (&str, &str) = (
-    "lottery 3
-for 300
-script spin
-compute 1000
-endscript
-fundx 10 base a spin
-fundx 5 base b spin
-",
+    "lottery 3\nfor 300\nscript spin\ncompute 1000\nendscript\nfundx 10 base a spin\nfundx 5 base b spin\n",
     "0 0 funded 1 1
 0 0 funded 2 2
 0 1 draw 12.992 of 15 thread 2
@@ -43,17 +34,8 @@ total turns 9 quanta 4 ticks 300 refused 0 left 0
 
 /// A command in the middle of a quantum, and one after the end.
 const LATER: (&str, &str) = (
-    "lottery 3
-for 250
-script spin
-compute 1000
-endscript
-fundx 10 base a spin
-at 150
-fundx 30 base b spin
-at 251
-unfund 1
-",
+    "lottery 3\nfor 250\nscript spin\ncompute 1000\nendscript\nfundx 10 base a spin\nat 150\nfundx 30 base b spin\n\
+    at 251\nunfund 1\n",
     "0 0 funded 1 1
 0 1 draw 7.992 of 10 thread 1
 100 1 thread 1 ticks 100 expire
@@ -71,16 +53,7 @@ total turns 7 quanta 3 ticks 200 refused 0 left 1
 
 /// A command at the time of an expiry.
 const TIES: (&str, &str) = (
-    "lottery 3
-for 100
-seed 1
-script spin
-compute 1000
-endscript
-fundx 10 base a spin
-at 100
-lsthr
-",
+    "lottery 3\nfor 100\nseed 1\nscript spin\ncompute 1000\nendscript\nfundx 10 base a spin\nat 100\nlsthr\n",
     "0 0 funded 1 1
 0 1 draw 9.035 of 10 thread 1
 100 0 lsthr 1
@@ -96,15 +69,7 @@ total turns 5 quanta 2 ticks 100 refused 0 left 0
 
 /// Two processors and one thread.
 const TWO_PROCESSORS: (&str, &str) = (
-    "lottery 3
-processors 2
-quantum 10
-for 25
-script spin
-compute 12
-endscript
-fundx 10 base a spin
-",
+    "lottery 3\nprocessors 2\nquantum 10\nfor 25\nscript spin\ncompute 12\nendscript\nfundx 10 base a spin\n",
     "0 0 funded 1 1
 0 1 draw 7.992 of 10 thread 1
 0 2 idle
@@ -124,22 +89,8 @@ total turns 9 quanta 2 ticks 13 refused 0 left 0 ended 1 mean 13 longest 13
 
 /// A call and its reply.
 const CALLS: (&str, &str) = (
-    "lottery 3
-quantum 10
-for 40
-port p
-script srv
-receive p
-compute 3
-reply
-endscript
-script cli
-set 41
-call p
-endscript
-fundx 5 base s srv
-fundx 3 base c cli
-",
+    "lottery 3\nquantum 10\nfor 40\nport p\nscript srv\nreceive p\ncompute 3\nreply\nendscript\n\
+    script cli\nset 41\ncall p\nendscript\nfundx 5 base s srv\nfundx 3 base c cli\n",
     "0 0 funded 1 1
 0 0 funded 2 2
 0 1 draw 5.992 of 8 thread 2
@@ -162,25 +113,8 @@ total turns 11 quanta 3 ticks 9 refused 0 left 0 ended 2 mean 8.5 longest 9
 
 /// A server without tickets that replies and receives in one trap.
 const SERVING: (&str, &str) = (
-    "lottery 3
-quantum 10
-for 60
-port p
-script srv
-receive p
-loop 2
-serve p
-end
-endscript
-script cli
-call p
-endscript
-fundx 1 base s srv
-at 2
-unfund 1
-fundx 3 base a cli
-fundx 2 base b cli
-",
+    "lottery 3\nquantum 10\nfor 60\nport p\nscript srv\nreceive p\nloop 2\nserve p\nend\nendscript\n\
+    script cli\ncall p\nendscript\nfundx 1 base s srv\nat 2\nunfund 1\nfundx 3 base a cli\nfundx 2 base b cli\n",
     "0 0 funded 1 1
 0 1 draw 0.992 of 1 thread 1
 1 1 thread 1 ticks 1 receive 1 waits
@@ -214,20 +148,8 @@ total turns 20 quanta 7 ticks 9 refused 0 left 0 ended 2 mean 6 longest 8
 
 /// A mutex and its lottery.
 const MUTEXES: (&str, &str) = (
-    "lottery 3
-quantum 10
-for 60
-mutex m
-script one
-lock m
-compute 2
-yield
-unlock m
-endscript
-fundx 3 base a one
-fundx 2 base b one
-fundx 1 base c one
-",
+    "lottery 3\nquantum 10\nfor 60\nmutex m\nscript one\nlock m\ncompute 2\nyield\nunlock m\nendscript\n\
+    fundx 3 base a one\nfundx 2 base b one\nfundx 1 base c one\n",
     "0 0 funded 1 1
 0 0 funded 2 2
 0 0 funded 3 3
@@ -264,20 +186,8 @@ total turns 24 quanta 8 ticks 18 refused 0 left 0 ended 3 mean 12.333 longest 18
 
 /// Values with digits after the point.
 const THIRDS: (&str, &str) = (
-    "lottery 3
-for 1
-script s
-compute 5
-endscript
-mkcur g
-mktkt 100 base
-fund 1 g
-fundx 1 g a s
-fundx 1 g b s
-fundx 1 g c s
-lscur
-lsthr
-",
+    "lottery 3\nfor 1\nscript s\ncompute 5\nendscript\nmkcur g\nmktkt 100 base\nfund 1 g\nfundx 1 g a s\n\
+    fundx 1 g b s\nfundx 1 g c s\nlscur\nlsthr\n",
     "0 0 currency 1
 0 0 ticket 1
 0 0 done
@@ -304,12 +214,7 @@ total turns 9 quanta 1 ticks 0 refused 0 left 0
 
 /// Refused commands.
 const REFUSED: (&str, &str) = (
-    "lottery 3
-for 1
-mktkt 0 base
-mkthr a none
-fund 9 a
-",
+    "lottery 3\nfor 1\nmktkt 0 base\nmkthr a none\nfund 9 a\n",
     "0 0 refused 6 BadAmount
 0 0 refused 14 NoScript
 0 0 refused 4 NoTicket
@@ -322,15 +227,7 @@ total turns 4 quanta 0 ticks 0 refused 3 left 0
 
 /// A thread that waits for good.
 const STUCK: (&str, &str) = (
-    "lottery 3
-quantum 10
-for 50
-port p
-script cli
-call p
-endscript
-fundx 1 base c cli
-",
+    "lottery 3\nquantum 10\nfor 50\nport p\nscript cli\ncall p\nendscript\nfundx 1 base c cli\n",
     "0 0 funded 1 1
 0 1 draw 0.992 of 1 thread 1
 1 1 thread 1 ticks 1 call 1 queued
@@ -344,22 +241,8 @@ total turns 4 quanta 1 ticks 1 refused 0 left 0
 
 /// A compensated thread.
 const COMPENSATED: (&str, &str) = (
-    "lottery 3
-quantum 9
-for 12
-seed 5
-script short
-compute 2
-yield
-endscript
-script long
-compute 9
-endscript
-fundx 1 base a short
-fundx 1 base b long
-at 12
-lsthr
-",
+    "lottery 3\nquantum 9\nfor 12\nseed 5\nscript short\ncompute 2\nyield\nendscript\n\
+    script long\ncompute 9\nendscript\nfundx 1 base a short\nfundx 1 base b long\nat 12\nlsthr\n",
     "0 0 funded 1 1
 0 0 funded 2 2
 0 1 draw 1.082 of 2 thread 2
@@ -381,19 +264,8 @@ total turns 8 quanta 3 ticks 12 refused 0 left 0
 /// Two threads that wake at the same time, while both processors wait: `a` wakes first, since its number is lower,
 /// though it went to sleep last. Then `a` sleeps to the last tick, and `b` past it.
 const SLEEPERS: (&str, &str) = (
-    "lottery 3
-processors 2
-quantum 10
-for 30
-script long
-compute 4 sleep 10 compute 2 sleep 12
-endscript
-script short
-compute 1 sleep 13 compute 2 sleep 13
-endscript
-fundx 1 base a long
-fundx 1 base b short
-",
+    "lottery 3\nprocessors 2\nquantum 10\nfor 30\nscript long\ncompute 4 sleep 10 compute 2 sleep 12\nendscript\n\
+    script short\ncompute 1 sleep 13 compute 2 sleep 13\nendscript\nfundx 1 base a long\nfundx 1 base b short\n",
     "0 0 funded 1 1
 0 0 funded 2 2
 0 1 draw 1.992 of 2 thread 2
@@ -426,16 +298,8 @@ total turns 21 quanta 5 ticks 13 refused 0 left 0
 
 /// A command and a wake at the last tick. The command comes first, and the woken thread takes part in the draw.
 const LAST_TICK: (&str, &str) = (
-    "lottery 3
-quantum 10
-for 20
-script nap
-compute 4 sleep 15 compute 2
-endscript
-fundx 1 base a nap
-at 20
-lsthr
-",
+    "lottery 3\nquantum 10\nfor 20\nscript nap\ncompute 4 sleep 15 compute 2\nendscript\nfundx 1 base a nap\n\
+    at 20\nlsthr\n",
     "0 0 funded 1 1
 0 1 draw 0.992 of 1 thread 1
 5 1 thread 1 ticks 5 sleep
@@ -454,28 +318,9 @@ total turns 7 quanta 2 ticks 5 refused 0 left 0
 /// A thread that sleeps with a mutex. The thread that waits for it is worth 0 until the owner wakes, and then lends to
 /// it.
 const SLEEPING_OWNER: (&str, &str) = (
-    "lottery 3
-quantum 10
-for 60
-mutex m
-script own
-lock m sleep 20 unlock m
-endscript
-script wants
-lock m unlock m
-endscript
-script spin
-compute 25
-endscript
-fundx 1 base a own
-at 2
-fundx 2 base b wants
-at 6
-fundx 1 base c spin
-lsthr
-at 23
-lsthr
-",
+    "lottery 3\nquantum 10\nfor 60\nmutex m\nscript own\nlock m sleep 20 unlock m\nendscript\n\
+    script wants\nlock m unlock m\nendscript\nscript spin\ncompute 25\nendscript\nfundx 1 base a own\nat 2\n\
+    fundx 2 base b wants\nat 6\nfundx 1 base c spin\nlsthr\nat 23\nlsthr\n",
     "0 0 funded 1 1
 0 1 draw 0.992 of 1 thread 1
 1 1 thread 1 ticks 1 lock 1 taken
@@ -521,36 +366,10 @@ total turns 26 quanta 8 ticks 33 refused 0 left 0 ended 3 mean 31.666 longest 36
 /// Reused numbers. Two sleepers are killed in their sleep, and each time the next thread has the number: it wakes at
 /// its own time. The second's wake comes before the third sleeps, and is refused.
 const NUMBERS_AGAIN: (&str, &str) = (
-    "lottery 3
-quantum 10
-for 60
-limits 2 1 2
-reuse
-script sleeper
-sleep 20
-endscript
-script spin
-compute 1000
-endscript
-fundx 1 base a sleeper
-at 3
-kill a
-unfund 1
-rmthr a
-rmtkt 1
-fundx 2 base b sleeper
-fundx 1 base c spin
-fundx 1 base d spin
-at 21
-kill b
-unfund 1
-rmthr b
-rmtkt 1
-fundx 5 base d sleeper
-lsthr
-at 40
-lsthr
-",
+    "lottery 3\nquantum 10\nfor 60\nlimits 2 1 2\nreuse\nscript sleeper\nsleep 20\nendscript\n\
+    script spin\ncompute 1000\nendscript\nfundx 1 base a sleeper\nat 3\nkill a\nunfund 1\nrmthr a\nrmtkt 1\n\
+    fundx 2 base b sleeper\nfundx 1 base c spin\nfundx 1 base d spin\nat 21\nkill b\nunfund 1\nrmthr b\nrmtkt 1\n\
+    fundx 5 base d sleeper\nlsthr\nat 40\nlsthr\n",
     "0 0 funded 1 1
 0 1 draw 0.992 of 1 thread 1
 1 1 thread 1 ticks 1 sleep

@@ -67,34 +67,16 @@ fn failing_errors(rt: HostRuntime) {
 
 #[test]
 fn nothing_to_tell(rt: HostRuntime) {
-    let input = "lottery 1
-script s
-compute 5
-endscript
-fundx 10 base a s
-schedule 0 1 1
-";
+    let input = "lottery 1\nscript s\ncompute 5\nendscript\nfundx 10 base a s\nschedule 0 1 1\n";
     check_told(&rt, rt.alloc(), "play", input, 0, "");
     check_told(&rt, rt.alloc(), "run", input, 0, "");
 }
 
 #[test]
 fn commands(rt: HostRuntime) {
-    let input = "lottery 1
-script s
-compute 5
-endscript
-# a comment and an empty line come between the commands
-
-mktkt 0 base
-script t
-yield
-endscript
-mkthr a u
-mkthr b t
-mkcur c
-schedule 0 0
-";
+    let input =
+        "lottery 1\nscript s\ncompute 5\nendscript\n# a comment and an empty line come between the commands\n\n\
+        mktkt 0 base\nscript t\nyield\nendscript\nmkthr a u\nmkthr b t\nmkcur c\nschedule 0 0\n";
     let expected =
         "line 7: the command was refused: an amount is a number from 1 to 4294967295, and not 0
 line 11: the command was refused: no script of an earlier line has the name 'u'
@@ -106,20 +88,9 @@ line 12: this command and those after it, 2 in all, were never made: each 0 in a
 
 #[test]
 fn removals(rt: HostRuntime) {
-    let input = "lottery 3
-quantum 8
-for 8
-script s
-compute 4
-endscript
-fundx 3 base a s
-rmthr a
-at 6
-rmthr a
-unfund 1
-rmthr a
-rmthr a
-";
+    let input =
+        "lottery 3\nquantum 8\nfor 8\nscript s\ncompute 4\nendscript\nfundx 3 base a s\nrmthr a\nat 6\nrmthr a\n\
+        unfund 1\nrmthr a\nrmthr a\n";
     let expected = "line 8: the command was refused: the thread hasn't ended
 line 10: the command was refused: tickets are in it or fund it, or the thread has a client or owns a mutex
 line 13: the command was refused: no thread has the name 'a'
@@ -129,18 +100,9 @@ line 13: the command was refused: no thread has the name 'a'
 
 #[test]
 fn kills(rt: HostRuntime) {
-    let input = "lottery 3
-quantum 8
-for 8
-script s
-compute 40
-endscript
-fundx 3 base a s
-at 3
-kill a
-kill a
-kill b
-";
+    let input =
+        "lottery 3\nquantum 8\nfor 8\nscript s\ncompute 40\nendscript\nfundx 3 base a s\nat 3\nkill a\nkill a\n\
+        kill b\n";
     let expected = "line 10: the command was refused: the thread has ended
 line 11: the command was refused: no thread has the name 'b'
 ";
@@ -162,19 +124,9 @@ fn one_command_never_made(rt: HostRuntime) {
 
 #[test]
 fn many_refused(rt: HostRuntime) {
-    let input = "lottery 1
-rmtkt 1
-rmtkt 2
-rmtkt 3
-rmtkt 4
-rmtkt 5
-rmtkt 6
-rmtkt 7
-rmtkt 8
-rmtkt 9
-rmtkt 10
-schedule 0 0 0 0 0 0 0 0 0 0
-";
+    let input =
+        "lottery 1\nrmtkt 1\nrmtkt 2\nrmtkt 3\nrmtkt 4\nrmtkt 5\nrmtkt 6\nrmtkt 7\nrmtkt 8\nrmtkt 9\nrmtkt 10\n\
+        schedule 0 0 0 0 0 0 0 0 0 0\n";
     check_told(
         &rt,
         rt.alloc(),
@@ -198,22 +150,9 @@ and 2 more commands that were refused
 // clients wait.
 #[test]
 fn stuck_server(rt: HostRuntime) {
-    let input = "lottery 1
-quantum 10
-port p
-script srv
-receive p
-reply
-receive p
-endscript
-script cli
-call p
-call p
-endscript
-mkthr s srv
-fundx 5 base c cli
-schedule 0 0 1 1 1 1 1 1 1 1 1
-";
+    let input =
+        "lottery 1\nquantum 10\nport p\nscript srv\nreceive p\nreply\nreceive p\nendscript\n\
+        script cli\ncall p\ncall p\nendscript\nmkthr s srv\nfundx 5 base c cli\nschedule 0 0 1 1 1 1 1 1 1 1 1\n";
     check_told(
         &rt,
         rt.alloc(),
@@ -229,16 +168,9 @@ thread 'c' waits for good for a server at port 'p'
 // The owner of the mutex has ended, so no thread will unlock it.
 #[test]
 fn mutex_kept_by_the_dead(rt: HostRuntime) {
-    let input = "lottery 1
-quantum 10
-mutex m
-script one
-lock m
-endscript
-fundx 5 base a one
-fundx 5 base b one
-schedule 0 0 1 1 1 1 1 1 1
-";
+    let input =
+        "lottery 1\nquantum 10\nmutex m\nscript one\nlock m\nendscript\nfundx 5 base a one\nfundx 5 base b one\n\
+        schedule 0 0 1 1 1 1 1 1 1\n";
     check_told(
         &rt,
         rt.alloc(),
@@ -252,20 +184,9 @@ schedule 0 0 1 1 1 1 1 1 1
 // The server has ended with a client.
 #[test]
 fn server_that_ended(rt: HostRuntime) {
-    let input = "lottery 1
-quantum 10
-port p
-script srv
-receive p
-endscript
-script cli
-call p
-endscript
-fundx 5 base s srv
-fundx 5 base c cli
-fundx 5 base d cli
-schedule 0 0 0 1 1 1 1 1 1 1 1 1 1 1
-";
+    let input =
+        "lottery 1\nquantum 10\nport p\nscript srv\nreceive p\nendscript\nscript cli\ncall p\nendscript\n\
+        fundx 5 base s srv\nfundx 5 base c cli\nfundx 5 base d cli\nschedule 0 0 0 1 1 1 1 1 1 1 1 1 1 1\n";
     check_told(
         &rt,
         rt.alloc(),
@@ -281,20 +202,8 @@ thread 'd' waits for good for a server at port 'p'
 // The owner of the mutex sleeps at the end, and would go on.
 #[test]
 fn mutex_of_a_sleeper(rt: HostRuntime) {
-    let input = "lottery 3
-quantum 10
-for 30
-mutex m
-script own
-lock m sleep 100
-endscript
-script wants
-lock m
-endscript
-fundx 1 base a own
-at 5
-fundx 1 base b wants
-";
+    let input = "lottery 3\nquantum 10\nfor 30\nmutex m\nscript own\nlock m sleep 100\nendscript\n\
+        script wants\nlock m\nendscript\nfundx 1 base a own\nat 5\nfundx 1 base b wants\n";
     check_told(&rt, rt.alloc(), "play", input, 0, "");
 }
 
@@ -354,16 +263,9 @@ fn played_to_the_end<H: Threads + Wait + Sync>(
 // its end.
 #[test]
 fn cut_at_the_largest_number_of_turns(rt: HostRuntime) {
-    let input = "lottery 3
-quantum 1
-for 9000000
-script s
-compute 16000000
-endscript
-fundx 1 base a s
-at 8000000
-mkcur c
-";
+    let input =
+        "lottery 3\nquantum 1\nfor 9000000\nscript s\ncompute 16000000\nendscript\nfundx 1 base a s\nat 8000000\n\
+        mkcur c\n";
     let report = "
 report
 thread 1 a quanta 8000000 ticks 7999999 share 100% due 100% value 100% ready waits 8000000 mean 0 longest 0
@@ -381,42 +283,19 @@ line 9: this command was never made: the run was cut before
 }
 
 /// A refused command, one that was never made, and a thread that weighs nothing.
-const REFUSED_UNMADE_WEIGHTLESS: &str = "lottery 1
-quantum 2
-script s
-compute 9
-endscript
-fundx 1 base a s
-rmtkt 7
-mkthr b s
-mkcur c
-schedule 0 0 0 1 1
-";
+const REFUSED_UNMADE_WEIGHTLESS: &str =
+    "lottery 1\nquantum 2\nscript s\ncompute 9\nendscript\nfundx 1 base a s\nrmtkt 7\nmkthr b s\nmkcur c\n\
+    schedule 0 0 0 1 1\n";
 
 /// The owner of the mutex has ended, so thread `b` waits for good.
-const WAITING: &str = "lottery 3
-quantum 10
-for 40
-mutex m
-script one
-lock m
-endscript
-fundx 5 base a one
-fundx 5 base b one
-";
+const WAITING: &str =
+    "lottery 3\nquantum 10\nfor 40\nmutex m\nscript one\nlock m\nendscript\nfundx 5 base a one\n\
+    fundx 5 base b one\n";
 
 /// A thread that locks its own mutex again.
-const LOCKED_TWICE: &str = "lottery 3
-quantum 10
-for 40
-mutex m
-script one
-lock m
-lock m
-compute 100
-endscript
-fundx 5 base a one
-";
+const LOCKED_TWICE: &str =
+    "lottery 3\nquantum 10\nfor 40\nmutex m\nscript one\nlock m\nlock m\ncompute 100\nendscript\n\
+    fundx 5 base a one\n";
 
 /// The subcommands that show an input in another way than `play`.
 pub(crate) const VIEWS: &[&str] = &["report", "explain", "shares", "chart"];
@@ -520,12 +399,7 @@ fn runs_that_show_little(rt: HostRuntime) {
 }
 
 /// A thread that computes for 300 ticks.
-const SPINS: &str = "lottery 3
-for 300
-script s
-compute 900 endscript
-fundx 1 base a s
-";
+const SPINS: &str = "lottery 3\nfor 300\nscript s\ncompute 900 endscript\nfundx 1 base a s\n";
 
 const NO_TURNS: &str =
     "the processors make no turns: the header has no 'turns T', how many each makes in a run\n";
@@ -573,18 +447,9 @@ fn beginnings_after_the_end(rt: HostRuntime) {
 }
 
 /// The thread that wins the first draw is the only one that runs. Thread `a` unlocks a mutex that it doesn't own.
-const STRICT: &str = "lottery 3
-for 10
-quantum 10
-strict
-mutex m
-script bad
-unlock m endscript
-script good
-compute 90 endscript
-fundx 1 base a bad
-fundx 1 base b good
-";
+const STRICT: &str =
+    "lottery 3\nfor 10\nquantum 10\nstrict\nmutex m\nscript bad\nunlock m endscript\n\
+    script good\ncompute 90 endscript\nfundx 1 base a bad\nfundx 1 base b good\n";
 
 // The drawn number, modulo the 512 units that both weigh, is 265 with the seed 1, and 11 with the seed 2.
 #[test]

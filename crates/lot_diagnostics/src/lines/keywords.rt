@@ -1,6 +1,6 @@
 //! The words of all formats. The input's format decides where a word may stand.
 
-use lot_simulation::{BodyWord, Format, HeaderWord, ScriptWord, WordRow};
+use lot_simulation::{BodyWord, Form, Format, HeaderWord, ScriptWord, WordRow};
 use std::str;
 
 /// The word of the header with this spelling, if there is one.
@@ -20,6 +20,9 @@ pub trait Keyword: Copy + PartialEq + 'static {
 
     /// Whether inputs of this format have a word of this kind with this spelling.
     fn is_read(format: Format, spelling: &[u8]) -> bool;
+
+    /// The form of a line that the word begins.
+    fn form_of(self) -> Form;
 }
 
 impl Keyword for HeaderWord {
@@ -29,6 +32,10 @@ impl Keyword for HeaderWord {
 
     fn is_read(format: Format, spelling: &[u8]) -> bool {
         HeaderWord::of_token(format, spelling).is_some()
+    }
+
+    fn form_of(self) -> Form {
+        self.form()
     }
 }
 
@@ -40,6 +47,10 @@ impl Keyword for BodyWord {
     fn is_read(format: Format, spelling: &[u8]) -> bool {
         BodyWord::of_token(format, spelling).is_some()
     }
+
+    fn form_of(self) -> Form {
+        self.form()
+    }
 }
 
 impl Keyword for ScriptWord {
@@ -50,6 +61,10 @@ impl Keyword for ScriptWord {
     fn is_read(format: Format, spelling: &[u8]) -> bool {
         ScriptWord::of_token(format, spelling).is_some()
     }
+
+    fn form_of(self) -> Form {
+        self.form()
+    }
 }
 
 /// Whether only timed inputs have this word.
@@ -57,11 +72,11 @@ pub fn is_only_timed<W: Keyword>(word: &str) -> bool {
     W::is_read(Format::V3, word.as_bytes()) && !W::is_read(Format::V1, word.as_bytes())
 }
 
-/// The row of the word with this spelling, if there is one.
-pub fn row_of<W: Keyword>(word: &str) -> Option<WordRow<W>> {
-    for row in W::rows() {
-        if row.0 == word.as_bytes() {
-            return Some((row.0, row.1, row.2));
+/// The word with this spelling, if there is one, with its spelling and the form of its lines.
+pub fn row_of<W: Keyword>(word: &str) -> Option<(&'static [u8], W, Form)> {
+    for (spelling, keyword, _) in W::rows() {
+        if *spelling == word.as_bytes() {
+            return Some((*spelling, *keyword, keyword.form_of()));
         }
     }
     None

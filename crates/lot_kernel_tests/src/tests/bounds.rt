@@ -110,13 +110,10 @@ fn sizes_past_a_bound(rt: HostRuntime) {
 
 /// Names of 16 bytes, the longest, which differ in their last byte.
 const LONG_NAMES: &[Step<'static>] = &[
-    Step::Gives(Line::Mkcur("abcdefghijklmnop"), Reply::Currency(1)),
-    Step::Gives(Line::Mkcur("abcdefghijklmnoq"), Reply::Currency(2)),
-    Step::Gives(
-        Line::Mkcur("abcdefghijklmnop"),
-        Reply::Refused(Refusal::NameTaken),
-    ),
-    Step::Gives(Line::Fundx(3, "base", "abcdefghijklmnor", 1), FIRST_FUNDED),
+    Step::Gives("mkcur abcdefghijklmnop", Reply::Currency(1)),
+    Step::Gives("mkcur abcdefghijklmnoq", Reply::Currency(2)),
+    Step::Gives("mkcur abcdefghijklmnop", Reply::Refused(Refusal::NameTaken)),
+    Step::Gives("fundx 3 base abcdefghijklmnor 1", FIRST_FUNDED),
     Step::Currency((1, "abcdefghijklmnop", 0, 0, 0, 0)),
     Step::Currency((2, "abcdefghijklmnoq", 0, 0, 0, 0)),
     Step::Thread((1, "abcdefghijklmnor", Status::Ready, 3, 3, 0, 0)),
@@ -130,13 +127,10 @@ fn names_of_sixteen_bytes(rt: HostRuntime) {
 
 /// When the limit on threads is reached, `fundx` makes neither a thread nor a ticket.
 const NO_MORE_THREADS: &[Step<'static>] = &[
-    Step::Gives(Line::Mkthr("u", 1), Reply::Refused(Refusal::Full)),
-    Step::Gives(
-        Line::Fundx(1, "base", "u", 1),
-        Reply::Refused(Refusal::Full),
-    ),
+    Step::Gives("mkthr u 1", Reply::Refused(Refusal::Full)),
+    Step::Gives("fundx 1 base u 1", Reply::Refused(Refusal::Full)),
     Step::NoThread(4097),
-    Step::Gives(Line::Mktkt(1, "base"), Reply::Ticket(4097)),
+    Step::Gives("mktkt 1 base", Reply::Ticket(4097)),
     Step::Wins(1, 4095, (4096, 4095, 4096), None),
 ];
 

@@ -6,18 +6,18 @@ use super::*;
 const RUNNING: &[Step<'static>] = &[
     Step::Wins(1, 0, (1, 0, 500), None),
     Step::Works(1, 29, Action::Lock(1), 1, Outcome::Locked),
-    Step::Gives(Line::Kill("a"), Reply::Killed(1)),
+    Step::Gives("kill a", Reply::Killed(1)),
     Step::Pauses(Pause::Preempt(1, 0), Reply::Refused(Refusal::NotRunning)),
     Step::Thread((1, "a", Status::Dead, 0, 0, 1, 30)),
     Step::Ticket((1, 400, "base", "a", Target::Thread(1), false, 0)),
-    Step::Gives(Line::Kill("a"), Reply::Refused(Refusal::DeadThread)),
-    Step::Gives(Line::Fund(1, "a"), Reply::Refused(Refusal::DeadThread)),
+    Step::Gives("kill a", Reply::Refused(Refusal::DeadThread)),
+    Step::Gives("fund 1 a", Reply::Refused(Refusal::DeadThread)),
     Step::Pauses(Pause::Wake(1), Reply::Refused(Refusal::NotAsleep)),
-    Step::Gives(Line::Rmthr("a"), Reply::Refused(Refusal::InUse)),
-    Step::Gives(Line::Unfund(1), Reply::Done),
-    Step::Gives(Line::Rmthr("a"), Reply::Done),
+    Step::Gives("rmthr a", Reply::Refused(Refusal::InUse)),
+    Step::Gives("unfund 1", Reply::Done),
+    Step::Gives("rmthr a", Reply::Done),
     Step::NoThread(1),
-    Step::Gives(Line::Kill("a"), Reply::Refused(Refusal::NoThread)),
+    Step::Gives("kill a", Reply::Refused(Refusal::NoThread)),
     Step::Wins(1, 99, (2, 99, 100), None),
     Step::Traps(1, Action::Lock(1), 2, Outcome::Locked),
     Step::Idles(2, 0),
@@ -27,7 +27,7 @@ const RUNNING: &[Step<'static>] = &[
 const ELSEWHERE: &[Step<'static>] = &[
     Step::Wins(1, 0, (1, 0, 500), None),
     Step::Wins(2, 0, (2, 0, 100), None),
-    Step::Gives(Line::Kill("a"), Reply::Killed(1)),
+    Step::Gives("kill a", Reply::Killed(1)),
     Step::Traps(2, Action::Lock(2), 2, Outcome::Locked),
     Step::Pauses(
         Pause::Preempt(2, 49),
@@ -42,9 +42,9 @@ const ELSEWHERE: &[Step<'static>] = &[
 
 /// A killed Ready thread competes in no draw.
 const READY: &[Step<'static>] = &[
-    Step::Gives(Line::Kill("a"), Reply::Killed(1)),
+    Step::Gives("kill a", Reply::Killed(1)),
     Step::Wins(1, 400, (2, 0, 100), None),
-    Step::Gives(Line::Kill("b"), Reply::Killed(2)),
+    Step::Gives("kill b", Reply::Killed(2)),
     Step::Idles(1, 0),
 ];
 
@@ -59,25 +59,25 @@ fn kills_of_runners(rt: HostRuntime) {
 
 /// A killed thread's ticket is inactive, so the other thread gets the whole value of their currency.
 const SHARED: &[Step<'static>] = &[
-    Step::Gives(Line::Mkcur("g"), Reply::Currency(1)),
-    Step::Gives(Line::Mktkt(100, "base"), Reply::Ticket(1)),
-    Step::Gives(Line::Fund(1, "g"), Reply::Done),
+    Step::Gives("mkcur g", Reply::Currency(1)),
+    Step::Gives("mktkt 100 base", Reply::Ticket(1)),
+    Step::Gives("fund 1 g", Reply::Done),
     Step::Gives(
-        Line::Fundx(1, "g", "a", 1),
+        "fundx 1 g a 1",
         Reply::Funded {
             ticket: 2,
             thread: 1,
         },
     ),
     Step::Gives(
-        Line::Fundx(1, "g", "b", 1),
+        "fundx 1 g b 1",
         Reply::Funded {
             ticket: 3,
             thread: 2,
         },
     ),
     Step::Value(1, 50),
-    Step::Gives(Line::Kill("a"), Reply::Killed(1)),
+    Step::Gives("kill a", Reply::Killed(1)),
     Step::Ticket((2, 1, "g", "a", Target::Thread(1), false, 0)),
     Step::Currency((1, "g", 1, 2, 1, 100)),
     Step::Thread((2, "b", Status::Ready, 100, 100, 0, 0)),
@@ -97,7 +97,7 @@ const SERVER: &[Step<'static>] = &[
     Step::Traps(1, Action::Call(1, 5), 2, Outcome::ServedBy(1)),
     Step::Wins(1, 3029, (3, 3029, 3030), None),
     Step::Traps(1, Action::Call(1, 6), 3, Outcome::Queued),
-    Step::Gives(Line::Kill("s"), Reply::Killed(1)),
+    Step::Gives("kill s", Reply::Killed(1)),
     Step::Thread((1, "s", Status::Dead, 0, 0, 1, 1)),
     Step::Thread((2, "c", Status::Ready, 20, 2000, 1, 1)),
     Step::Thread((3, "d", Status::Queued(1), 0, 0, 1, 1)),
@@ -120,7 +120,7 @@ const CLIENT: &[Step<'static>] = &[
     Step::Wins(1, 0, (2, 0, 50), None),
     Step::Traps(1, Action::Call(1, 5), 2, Outcome::ServedBy(1)),
     Step::Value(1, 30),
-    Step::Gives(Line::Kill("c"), Reply::Killed(2)),
+    Step::Gives("kill c", Reply::Killed(2)),
     Step::Wins(1, 999, (1, 999, 1030), Some(5)),
     Step::Traps(
         1,
@@ -144,7 +144,7 @@ const CALLER: &[Step<'static>] = &[
     Step::Traps(1, Action::Call(1, 7), 1, Outcome::Queued),
     Step::Wins(1, 0, (2, 0, 50), None),
     Step::Traps(1, Action::Call(1, 8), 2, Outcome::Queued),
-    Step::Gives(Line::Kill("a"), Reply::Killed(1)),
+    Step::Gives("kill a", Reply::Killed(1)),
     Step::Wins(1, 0, (3, 0, 30), None),
     Step::Traps(
         1,
@@ -164,7 +164,7 @@ const RECEIVER: &[Step<'static>] = &[
     Step::Traps(1, Action::Receive(1), 1, Outcome::Waits),
     Step::Wins(1, 0, (2, 0, 50), None),
     Step::Traps(1, Action::Receive(1), 2, Outcome::Waits),
-    Step::Gives(Line::Kill("a"), Reply::Killed(1)),
+    Step::Gives("kill a", Reply::Killed(1)),
     Step::Wins(1, 0, (3, 0, 30), None),
     Step::Traps(1, Action::Call(1, 5), 3, Outcome::ServedBy(2)),
     Step::Wins(1, 4999, (2, 4999, 5000), Some(5)),
@@ -191,7 +191,7 @@ const ONE_MUTEX: &[Step<'static>] = &[
 
 /// The owner is killed: `w` has waited longest, so it owns the mutex, and `x` lends to it.
 const OWNER: &[Step<'static>] = &[
-    Step::Gives(Line::Kill("o"), Reply::Killed(1)),
+    Step::Gives("kill o", Reply::Killed(1)),
     Step::Thread((1, "o", Status::Dead, 0, 0, 1, 1)),
     Step::Thread((2, "w", Status::Ready, 50, 5000, 1, 1)),
     Step::Wins(1, 4999, (2, 4999, 5000), None),
@@ -209,7 +209,7 @@ const OWNER: &[Step<'static>] = &[
 
 /// A killed waiter lends nothing, and takes no part in the lottery of the unlock.
 const WAITER: &[Step<'static>] = &[
-    Step::Gives(Line::Kill("w"), Reply::Killed(2)),
+    Step::Gives("kill w", Reply::Killed(2)),
     Step::Value(1, 40),
     Step::Traps(
         1,
@@ -232,7 +232,7 @@ const TWO_MUTEXES: &[Step<'static>] = &[
     Step::Traps(2, Action::Lock(1), 2, Outcome::Waits),
     Step::Wins(2, 0, (3, 0, 30), None),
     Step::Traps(2, Action::Lock(2), 3, Outcome::Waits),
-    Step::Gives(Line::Kill("o"), Reply::Killed(1)),
+    Step::Gives("kill o", Reply::Killed(1)),
     Step::Thread((2, "w", Status::Ready, 20, 2000, 1, 1)),
     Step::Thread((3, "x", Status::Ready, 30, 3000, 1, 1)),
     Step::Wins(1, 1999, (2, 1999, 5000), None),
@@ -255,7 +255,7 @@ fn kills_of_owners_and_waiters(rt: HostRuntime) {
 const SLEEPER: &[Step<'static>] = &[
     Step::Wins(1, 0, (1, 0, 30), None),
     Step::Works(1, 19, Action::Sleep(()), 1, Outcome::Slept),
-    Step::Gives(Line::Kill("a"), Reply::Killed(1)),
+    Step::Gives("kill a", Reply::Killed(1)),
     Step::Pauses(Pause::Wake(1), Reply::Refused(Refusal::NotAsleep)),
     Step::Thread((1, "a", Status::Dead, 0, 0, 1, 20)),
     Step::Wins(1, 29, (2, 9, 20), None),
@@ -268,26 +268,23 @@ fn kill_of_a_sleeper(rt: HostRuntime) {
 
 /// A thread to kill must exist and not be dead. Neither base nor another currency is a thread.
 const REFUSED: &[Step<'static>] = &[
-    Step::Gives(Line::Kill("a"), Reply::Refused(Refusal::NoThread)),
-    Step::Gives(Line::Kill("base"), Reply::Refused(Refusal::NoThread)),
-    Step::Gives(Line::Mkcur("g"), Reply::Currency(1)),
-    Step::Gives(Line::Kill("g"), Reply::Refused(Refusal::NoThread)),
-    Step::Gives(Line::Fundx(10, "base", "a", 1), FIRST_FUNDED),
+    Step::Gives("kill a", Reply::Refused(Refusal::NoThread)),
+    Step::Gives("kill base", Reply::Refused(Refusal::NoThread)),
+    Step::Gives("mkcur g", Reply::Currency(1)),
+    Step::Gives("kill g", Reply::Refused(Refusal::NoThread)),
+    Step::Gives("fundx 10 base a 1", FIRST_FUNDED),
     Step::Wins(1, 0, (1, 0, 10), None),
     Step::Traps(1, Action::Exit, 1, Outcome::Exited),
-    Step::Gives(Line::Kill("a"), Reply::Refused(Refusal::DeadThread)),
+    Step::Gives("kill a", Reply::Refused(Refusal::DeadThread)),
 ];
 
 /// Numbers of threads to kill, where there are two.
 const NUMBERED: &[Step<'static>] = &[
-    Step::Gives(Line::KillThread(0), Reply::Refused(Refusal::NoThread)),
-    Step::Gives(Line::KillThread(3), Reply::Refused(Refusal::NoThread)),
-    Step::Gives(Line::KillThread(2), Reply::Killed(2)),
-    Step::Gives(Line::KillThread(2), Reply::Refused(Refusal::DeadThread)),
-    Step::Gives(
-        Line::KillThread(u32::MAX),
-        Reply::Refused(Refusal::NoThread),
-    ),
+    Step::Gives("kill #0", Reply::Refused(Refusal::NoThread)),
+    Step::Gives("kill #3", Reply::Refused(Refusal::NoThread)),
+    Step::Gives("kill #2", Reply::Killed(2)),
+    Step::Gives("kill #2", Reply::Refused(Refusal::DeadThread)),
+    Step::Gives("kill #4294967295", Reply::Refused(Refusal::NoThread)),
     Step::Wins(1, 29, (1, 9, 10), None),
 ];
 

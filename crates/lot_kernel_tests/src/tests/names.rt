@@ -4,22 +4,22 @@ use super::*;
 /// Currencies and threads share one set of names: each may have the name of a removed one, and not that of an existing
 /// one.
 const GIVEN_AGAIN: &[Step<'static>] = &[
-    Step::Gives(Line::Mkcur("x"), Reply::Currency(1)),
-    Step::Gives(Line::Rmcur("x"), Reply::Done),
-    Step::Gives(Line::Rmcur("x"), Reply::Refused(Refusal::NoCurrency)),
-    Step::Gives(Line::Fundx(10, "base", "x", 1), FIRST_FUNDED),
-    Step::Gives(Line::Mkcur("x"), Reply::Refused(Refusal::NameTaken)),
-    Step::Gives(Line::Mktkt(1, "x"), Reply::Refused(Refusal::NoCurrency)),
+    Step::Gives("mkcur x", Reply::Currency(1)),
+    Step::Gives("rmcur x", Reply::Done),
+    Step::Gives("rmcur x", Reply::Refused(Refusal::NoCurrency)),
+    Step::Gives("fundx 10 base x 1", FIRST_FUNDED),
+    Step::Gives("mkcur x", Reply::Refused(Refusal::NameTaken)),
+    Step::Gives("mktkt 1 x", Reply::Refused(Refusal::NoCurrency)),
     Step::Wins(1, 7, (1, 7, 10), None),
     Step::Traps(1, Action::Exit, 1, Outcome::Exited),
-    Step::Gives(Line::Unfund(1), Reply::Done),
-    Step::Gives(Line::Rmthr("x"), Reply::Done),
-    Step::Gives(Line::Mkcur("x"), Reply::Currency(2)),
-    Step::Gives(Line::Mkthr("x", 1), Reply::Refused(Refusal::NameTaken)),
-    Step::Gives(Line::Mktkt(1, "x"), Reply::Ticket(2)),
-    Step::Gives(Line::Rmtkt(2), Reply::Done),
-    Step::Gives(Line::Rmcur("x"), Reply::Done),
-    Step::Gives(Line::Mkthr("x", 1), Reply::Thread(2)),
+    Step::Gives("unfund 1", Reply::Done),
+    Step::Gives("rmthr x", Reply::Done),
+    Step::Gives("mkcur x", Reply::Currency(2)),
+    Step::Gives("mkthr x 1", Reply::Refused(Refusal::NameTaken)),
+    Step::Gives("mktkt 1 x", Reply::Ticket(2)),
+    Step::Gives("rmtkt 2", Reply::Done),
+    Step::Gives("rmcur x", Reply::Done),
+    Step::Gives("mkthr x 1", Reply::Thread(2)),
     Step::NoCurrency(2),
     Step::Thread((2, "x", Status::Ready, 0, 0, 0, 0)),
 ];
@@ -31,42 +31,42 @@ fn names_given_again(rt: HostRuntime) {
 
 /// Names of currencies in one bucket of eight, of which the second, the first and the last are removed.
 const CURRENCIES_OF_ONE_BUCKET: &[Step<'static>] = &[
-    Step::Gives(Line::Mkcur("a"), Reply::Currency(1)),
-    Step::Gives(Line::Mkcur("d"), Reply::Currency(2)),
-    Step::Gives(Line::Mkcur("g"), Reply::Currency(3)),
-    Step::Gives(Line::Mkcur("y"), Reply::Currency(4)),
-    Step::Gives(Line::Mkthr("d", 1), Reply::Refused(Refusal::NameTaken)),
-    Step::Gives(Line::Rmcur("d"), Reply::Done),
-    Step::Gives(Line::Mktkt(1, "a"), Reply::Ticket(1)),
-    Step::Gives(Line::Mktkt(1, "d"), Reply::Refused(Refusal::NoCurrency)),
-    Step::Gives(Line::Mktkt(1, "g"), Reply::Ticket(2)),
-    Step::Gives(Line::Rmtkt(1), Reply::Done),
-    Step::Gives(Line::Rmcur("a"), Reply::Done),
-    Step::Gives(Line::Rmcur("y"), Reply::Done),
-    Step::Gives(Line::Mktkt(1, "a"), Reply::Refused(Refusal::NoCurrency)),
-    Step::Gives(Line::Mktkt(1, "g"), Reply::Ticket(3)),
-    Step::Gives(Line::Mktkt(1, "y"), Reply::Refused(Refusal::NoCurrency)),
-    Step::Gives(Line::Mkcur("a"), Reply::Currency(5)),
-    Step::Gives(Line::Mktkt(1, "a"), Reply::Ticket(4)),
+    Step::Gives("mkcur a", Reply::Currency(1)),
+    Step::Gives("mkcur d", Reply::Currency(2)),
+    Step::Gives("mkcur g", Reply::Currency(3)),
+    Step::Gives("mkcur y", Reply::Currency(4)),
+    Step::Gives("mkthr d 1", Reply::Refused(Refusal::NameTaken)),
+    Step::Gives("rmcur d", Reply::Done),
+    Step::Gives("mktkt 1 a", Reply::Ticket(1)),
+    Step::Gives("mktkt 1 d", Reply::Refused(Refusal::NoCurrency)),
+    Step::Gives("mktkt 1 g", Reply::Ticket(2)),
+    Step::Gives("rmtkt 1", Reply::Done),
+    Step::Gives("rmcur a", Reply::Done),
+    Step::Gives("rmcur y", Reply::Done),
+    Step::Gives("mktkt 1 a", Reply::Refused(Refusal::NoCurrency)),
+    Step::Gives("mktkt 1 g", Reply::Ticket(3)),
+    Step::Gives("mktkt 1 y", Reply::Refused(Refusal::NoCurrency)),
+    Step::Gives("mkcur a", Reply::Currency(5)),
+    Step::Gives("mktkt 1 a", Reply::Ticket(4)),
 ];
 
 /// Names of threads in one bucket of eight. The second is removed, and a new thread gets its name.
 const THREADS_OF_ONE_BUCKET: &[Step<'static>] = &[
-    Step::Gives(Line::Fundx(1, "base", "a", 1), FIRST_FUNDED),
-    Step::Gives(Line::Mkthr("d", 1), Reply::Thread(2)),
-    Step::Gives(Line::Mkthr("g", 1), Reply::Thread(3)),
-    Step::Gives(Line::Unfund(1), Reply::Done),
-    Step::Gives(Line::Fund(1, "d"), Reply::Done),
+    Step::Gives("fundx 1 base a 1", FIRST_FUNDED),
+    Step::Gives("mkthr d 1", Reply::Thread(2)),
+    Step::Gives("mkthr g 1", Reply::Thread(3)),
+    Step::Gives("unfund 1", Reply::Done),
+    Step::Gives("fund 1 d", Reply::Done),
     Step::Wins(1, 0, (2, 0, 1), None),
     Step::Traps(1, Action::Exit, 2, Outcome::Exited),
-    Step::Gives(Line::Unfund(1), Reply::Done),
-    Step::Gives(Line::Rmthr("d"), Reply::Done),
-    Step::Gives(Line::Fund(1, "d"), Reply::Refused(Refusal::NoTarget)),
-    Step::Gives(Line::Mkthr("g", 1), Reply::Refused(Refusal::NameTaken)),
-    Step::Gives(Line::Mkthr("d", 1), Reply::Thread(4)),
-    Step::Gives(Line::Fund(1, "g"), Reply::Done),
-    Step::Gives(Line::Unfund(1), Reply::Done),
-    Step::Gives(Line::Fund(1, "d"), Reply::Done),
+    Step::Gives("unfund 1", Reply::Done),
+    Step::Gives("rmthr d", Reply::Done),
+    Step::Gives("fund 1 d", Reply::Refused(Refusal::NoTarget)),
+    Step::Gives("mkthr g 1", Reply::Refused(Refusal::NameTaken)),
+    Step::Gives("mkthr d 1", Reply::Thread(4)),
+    Step::Gives("fund 1 g", Reply::Done),
+    Step::Gives("unfund 1", Reply::Done),
+    Step::Gives("fund 1 d", Reply::Done),
 ];
 
 /// Takes the steps in a new kernel with room for eight currencies, base among them, and for eight threads.
@@ -86,51 +86,48 @@ fn names_of_one_bucket(rt: HostRuntime) {
 fn one_name_for_each_currency(rt: HostRuntime) {
     let mut kernel = largest(&rt, rt.alloc(), 1);
     for number in 1..=4096 {
-        check_answer(&rt, &mut kernel, Line::Mkcur("x"), Reply::Currency(number));
-        check_answer(&rt, &mut kernel, Line::Rmcur("x"), Reply::Done);
+        check_answer(&rt, &mut kernel, "mkcur x", Reply::Currency(number));
+        check_answer(&rt, &mut kernel, "rmcur x", Reply::Done);
     }
     let full = Reply::Refused(Refusal::Full);
-    check_answer(&rt, &mut kernel, Line::Mkcur("x"), full)
+    check_answer(&rt, &mut kernel, "mkcur x", full)
 }
 
 /// Names that aren't a letter a to z, followed by letters, digits, `_` or `-`.
 const REFUSED: &[Step<'static>] = &[
-    Step::Gives(Line::Mkthr("Job#1", 1), Reply::Refused(Refusal::BadName)),
-    Step::Gives(Line::Mkcur("~!"), Reply::Refused(Refusal::BadName)),
-    Step::Gives(Line::Mkcur("9"), Reply::Refused(Refusal::BadName)),
-    Step::Gives(
-        Line::Fundx(1, "base", "aB", 1),
-        Reply::Refused(Refusal::BadName),
-    ),
-    Step::Gives(Line::Mktkt(1, "~!"), Reply::Refused(Refusal::NoCurrency)),
-    Step::Gives(Line::Kill("Job#1"), Reply::Refused(Refusal::NoThread)),
+    Step::Gives("mkthr Job#1 1", Reply::Refused(Refusal::BadName)),
+    Step::Gives("mkcur ~!", Reply::Refused(Refusal::BadName)),
+    Step::Gives("mkcur 9", Reply::Refused(Refusal::BadName)),
+    Step::Gives("fundx 1 base aB 1", Reply::Refused(Refusal::BadName)),
+    Step::Gives("mktkt 1 ~!", Reply::Refused(Refusal::NoCurrency)),
+    Step::Gives("kill Job#1", Reply::Refused(Refusal::NoThread)),
 ];
 
 /// Plain names have any printable ASCII but the space, from `!` to `~`. Two names differ even if only one letter does,
 /// small in one and a capital in the other.
 const PLAIN: &[Step<'static>] = &[
-    Step::Gives(Line::Mkthr("Job#1", 1), Reply::Thread(1)),
-    Step::Gives(Line::Mkcur("~!"), Reply::Currency(1)),
-    Step::Gives(Line::Mkcur("9"), Reply::Currency(2)),
-    Step::Gives(Line::Mkcur("Job#1"), Reply::Refused(Refusal::NameTaken)),
-    Step::Gives(Line::Mkthr("9", 1), Reply::Refused(Refusal::NameTaken)),
-    Step::Gives(Line::Mkthr("job#1", 1), Reply::Thread(2)),
-    Step::Gives(Line::Mkcur("a b"), Reply::Refused(Refusal::BadName)),
-    Step::Gives(Line::Mkthr("a\u{7f}", 1), Reply::Refused(Refusal::BadName)),
-    Step::Gives(Line::Mkcur(""), Reply::Refused(Refusal::BadName)),
-    Step::Gives(Line::Mkthr("", 1), Reply::Thread(3)),
-    Step::Gives(Line::Mktkt(100, "~!"), Reply::Ticket(1)),
-    Step::Gives(Line::Mktkt(50, "base"), Reply::Ticket(2)),
-    Step::Gives(Line::Fund(2, "~!"), Reply::Done),
-    Step::Gives(Line::Fund(1, "Job#1"), Reply::Done),
+    Step::Gives("mkthr Job#1 1", Reply::Thread(1)),
+    Step::Gives("mkcur ~!", Reply::Currency(1)),
+    Step::Gives("mkcur 9", Reply::Currency(2)),
+    Step::Gives("mkcur Job#1", Reply::Refused(Refusal::NameTaken)),
+    Step::Gives("mkthr 9 1", Reply::Refused(Refusal::NameTaken)),
+    Step::Gives("mkthr job#1 1", Reply::Thread(2)),
+    Step::Gives("mkcur a b", Reply::Refused(Refusal::BadName)),
+    Step::Gives("mkthr a\u{7f} 1", Reply::Refused(Refusal::BadName)),
+    Step::Gives("mkcur ", Reply::Refused(Refusal::BadName)),
+    Step::Gives("mkthr  1", Reply::Thread(3)),
+    Step::Gives("mktkt 100 ~!", Reply::Ticket(1)),
+    Step::Gives("mktkt 50 base", Reply::Ticket(2)),
+    Step::Gives("fund 2 ~!", Reply::Done),
+    Step::Gives("fund 1 Job#1", Reply::Done),
     Step::Ticket((1, 100, "~!", "Job#1", Target::Thread(1), true, 50)),
     Step::Currency((1, "~!", 1, 1, 100, 50)),
     Step::Thread((1, "Job#1", Status::Ready, 50, 50, 0, 0)),
-    Step::Gives(Line::Kill("Job#1"), Reply::Killed(1)),
-    Step::Gives(Line::Unfund(1), Reply::Done),
-    Step::Gives(Line::Rmthr("Job#1"), Reply::Done),
-    Step::Gives(Line::Rmthr("Job#1"), Reply::Refused(Refusal::NoThread)),
-    Step::Gives(Line::Fund(1, "job#1"), Reply::Done),
+    Step::Gives("kill Job#1", Reply::Killed(1)),
+    Step::Gives("unfund 1", Reply::Done),
+    Step::Gives("rmthr Job#1", Reply::Done),
+    Step::Gives("rmthr Job#1", Reply::Refused(Refusal::NoThread)),
+    Step::Gives("fund 1 job#1", Reply::Done),
 ];
 
 #[test]

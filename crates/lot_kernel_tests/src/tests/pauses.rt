@@ -4,7 +4,7 @@ use super::*;
 /// Thread `a` sleeps, with a fifth of its quantum used: its ticket is inactive until it is woken, and then it weighs
 /// five times its value.
 const SLEEPER: &[Step<'static>] = &[
-    Step::Gives(Line::Fundx(400, "base", "a", 1), FIRST_FUNDED),
+    Step::Gives("fundx 400 base a 1", FIRST_FUNDED),
     Step::Pauses(Pause::Wake(1), Reply::Refused(Refusal::NotAsleep)),
     Step::Pauses(Pause::Wake(2), Reply::Refused(Refusal::NoThread)),
     Step::Pauses(Pause::Wake(0), Reply::Refused(Refusal::NoThread)),
@@ -48,7 +48,7 @@ fn sleep_of_an_owner(rt: HostRuntime) {
 
 /// A thread is preempted within its quantum: the ticks that it ran count, and it gets no compensation.
 const PREEMPTED: &[Step<'static>] = &[
-    Step::Gives(Line::Fundx(400, "base", "a", 1), FIRST_FUNDED),
+    Step::Gives("fundx 400 base a 1", FIRST_FUNDED),
     Step::Pauses(Pause::Preempt(1, 0), Reply::Refused(Refusal::NotRunning)),
     Step::Wins(1, 0, (1, 0, 400), None),
     Step::Pauses(Pause::Preempt(3, 0), Reply::Refused(Refusal::BadProcessor)),
@@ -75,7 +75,7 @@ const PREEMPTED: &[Step<'static>] = &[
 
 /// After a quantum that ended late, the thread weighs less in proportion, until it next wins.
 const LATE: &[Step<'static>] = &[
-    Step::Gives(Line::Fundx(400, "base", "a", 1), FIRST_FUNDED),
+    Step::Gives("fundx 400 base a 1", FIRST_FUNDED),
     Step::Pauses(Pause::Overrun(1, 0), Reply::Refused(Refusal::NotRunning)),
     Step::Wins(1, 0, (1, 0, 400), None),
     Step::Pauses(Pause::Overrun(0, 0), Reply::Refused(Refusal::BadProcessor)),
@@ -123,7 +123,7 @@ fn quanta_that_end_early_or_late(rt: HostRuntime) {
 /// In a kernel without compensation thread `a` yields after a fifth of its quantum, sleeps and wakes, and its quantum
 /// ends late: it always weighs its value.
 const UNCOMPENSATED: &[Step<'static>] = &[
-    Step::Gives(Line::Fundx(400, "base", "a", 1), FIRST_FUNDED),
+    Step::Gives("fundx 400 base a 1", FIRST_FUNDED),
     Step::Wins(1, 0, (1, 0, 400), None),
     Step::Works(1, 19, Action::Yield, 1, Outcome::Yielded),
     Step::Thread((1, "a", Status::Ready, 400, 400, 1, 20)),

@@ -6,9 +6,9 @@ use lot_kernel::{Meter, Settled};
 #[derive(Clone, Copy)]
 enum Count<'a> {
     /// A done command, which reads nothing.
-    Does(Line<'a>),
+    Does(&'a str),
     /// A refused command, with its refusal, which reads nothing.
-    Refuses(Line<'a>, Refusal),
+    Refuses(&'a str, Refusal),
     /// A draw by processor 1 that this thread wins, the number, the total, and the edges that it reads.
     Draws(u128, Winner, u64),
     /// The end of the quantum on processor 1, which reads nothing.
@@ -107,36 +107,36 @@ fn count_all(rt: &impl Abort, alloc: Global, steps: &[Count<'_>]) {
 // 100 base fund `g`, which three threads share. A second ticket of base makes `g` and the three stale: the draw reads
 // the two tickets that fund `g`, and one for each thread.
 const SHARED: &[Count<'static>] = &[
-    Count::Does(Line::Mkcur("g")),
-    Count::Does(Line::Mktkt(100, "base")),
-    Count::Does(Line::Fund(1, "g")),
-    Count::Does(Line::Fundx(1, "g", "a", 1)),
-    Count::Does(Line::Fundx(1, "g", "b", 1)),
-    Count::Does(Line::Fundx(1, "g", "c", 1)),
+    Count::Does("mkcur g"),
+    Count::Does("mktkt 100 base"),
+    Count::Does("fund 1 g"),
+    Count::Does("fundx 1 g a 1"),
+    Count::Does("fundx 1 g b 1"),
+    Count::Does("fundx 1 g c 1"),
     Count::Draws(0, (1, 0, 99), 4),
     Count::Expires,
     Count::Draws(0, (1, 0, 99), 0),
     Count::Expires,
-    Count::Does(Line::Mktkt(50, "base")),
-    Count::Does(Line::Fund(5, "g")),
+    Count::Does("mktkt 50 base"),
+    Count::Does("fund 5 g"),
     Count::Draws(149, (3, 149, 150), 5),
 ];
 
 // 100 and 60 of base fund `g`, which funds `h`, which funds a thread: four tickets. Without the first
 // of them `g`, `h` and the thread are stale, and one ticket funds each.
 const UPSTREAM: &[Count<'static>] = &[
-    Count::Does(Line::Mkcur("g")),
-    Count::Does(Line::Mkcur("h")),
-    Count::Does(Line::Mktkt(100, "base")),
-    Count::Does(Line::Fund(1, "g")),
-    Count::Does(Line::Mktkt(1, "g")),
-    Count::Does(Line::Fund(2, "h")),
-    Count::Does(Line::Fundx(1, "h", "a", 1)),
-    Count::Does(Line::Mktkt(60, "base")),
-    Count::Does(Line::Fund(4, "g")),
+    Count::Does("mkcur g"),
+    Count::Does("mkcur h"),
+    Count::Does("mktkt 100 base"),
+    Count::Does("fund 1 g"),
+    Count::Does("mktkt 1 g"),
+    Count::Does("fund 2 h"),
+    Count::Does("fundx 1 h a 1"),
+    Count::Does("mktkt 60 base"),
+    Count::Does("fund 4 g"),
     Count::Draws(159, (1, 159, 160), 4),
     Count::Expires,
-    Count::Does(Line::Unfund(1)),
+    Count::Does("unfund 1"),
     Count::Draws(59, (1, 59, 60), 3),
 ];
 
@@ -145,35 +145,35 @@ const UPSTREAM: &[Count<'static>] = &[
 // another amount of the third thread's ticket makes only that thread stale. Neither a ticket that funds nothing nor a
 // refused command makes anything stale.
 const RESET: &[Count<'static>] = &[
-    Count::Does(Line::Mkcur("g")),
-    Count::Does(Line::Mktkt(100, "base")),
-    Count::Does(Line::Fund(1, "g")),
-    Count::Does(Line::Fundx(1, "g", "a", 1)),
-    Count::Does(Line::Fundx(1, "g", "b", 1)),
-    Count::Does(Line::Fundx(10, "base", "c", 1)),
+    Count::Does("mkcur g"),
+    Count::Does("mktkt 100 base"),
+    Count::Does("fund 1 g"),
+    Count::Does("fundx 1 g a 1"),
+    Count::Does("fundx 1 g b 1"),
+    Count::Does("fundx 10 base c 1"),
     Count::Draws(109, (3, 109, 110), 4),
     Count::Expires,
-    Count::Does(Line::Settkt(1, 200)),
+    Count::Does("settkt 1 200"),
     Count::Draws(209, (3, 209, 210), 3),
     Count::Expires,
-    Count::Does(Line::Settkt(2, 3)),
+    Count::Does("settkt 2 3"),
     Count::Draws(150, (2, 150, 210), 2),
     Count::Expires,
-    Count::Does(Line::Settkt(4, 40)),
+    Count::Does("settkt 4 40"),
     Count::Draws(239, (3, 239, 240), 1),
     Count::Expires,
-    Count::Does(Line::Mktkt(7, "g")),
-    Count::Does(Line::Settkt(5, 8)),
-    Count::Refuses(Line::Settkt(1, 0), Refusal::BadAmount),
-    Count::Refuses(Line::Settkt(9, 1), Refusal::NoTicket),
+    Count::Does("mktkt 7 g"),
+    Count::Does("settkt 5 8"),
+    Count::Refuses("settkt 1 0", Refusal::BadAmount),
+    Count::Refuses("settkt 9 1", Refusal::NoTicket),
     Count::Draws(0, (1, 0, 240), 0),
 ];
 
 // A listing settles stale nodes once; a draw after it reads nothing. A ticket's row also reads the ticket.
 const LISTED: &[Count<'static>] = &[
-    Count::Does(Line::Fundx(10, "base", "a", 1)),
-    Count::Does(Line::Fundx(5, "base", "b", 1)),
-    Count::Does(Line::Mktkt(7, "base")),
+    Count::Does("fundx 10 base a 1"),
+    Count::Does("fundx 5 base b 1"),
+    Count::Does("mktkt 7 base"),
     Count::ThreadRow(1, 2),
     Count::ThreadRow(2, 0),
     Count::TicketRow(1, 1),
@@ -183,7 +183,7 @@ const LISTED: &[Count<'static>] = &[
 
 // An unlock without waiters, and all traps that are refused or aren't unlocks, read nothing.
 const TRAPPED: &[Count<'static>] = &[
-    Count::Does(Line::Fundx(10, "base", "a", 1)),
+    Count::Does("fundx 10 base a 1"),
     Count::Draws(0, (1, 0, 10), 1),
     Count::Traps(Action::Lock(1), Outcome::Locked, 0),
     Count::Traps(Action::Lock(9), Outcome::Refused(TrapRefusal::NoMutex), 0),
@@ -193,15 +193,15 @@ const TRAPPED: &[Count<'static>] = &[
 
 // The removal of a dead thread makes nothing stale, and neither does a refused one.
 const REMOVED: &[Count<'static>] = &[
-    Count::Does(Line::Fundx(10, "base", "a", 1)),
-    Count::Does(Line::Fundx(5, "base", "b", 1)),
+    Count::Does("fundx 10 base a 1"),
+    Count::Does("fundx 5 base b 1"),
     Count::Draws(0, (1, 0, 15), 2),
     Count::Traps(Action::Exit, Outcome::Exited, 0),
-    Count::Refuses(Line::Rmthr("a"), Refusal::InUse),
-    Count::Does(Line::Unfund(1)),
+    Count::Refuses("rmthr a", Refusal::InUse),
+    Count::Does("unfund 1"),
     Count::Draws(0, (2, 0, 5), 0),
-    Count::Refuses(Line::Rmthr("b"), Refusal::Alive),
-    Count::Does(Line::Rmthr("a")),
+    Count::Refuses("rmthr b", Refusal::Alive),
+    Count::Does("rmthr a"),
     Count::Expires,
     Count::Draws(4, (2, 4, 5), 0),
 ];
@@ -209,12 +209,12 @@ const REMOVED: &[Count<'static>] = &[
 // A kill reads nothing, and neither does a refused one. Once no ticket funds the killed thread, finding its value takes
 // no read.
 const KILLED: &[Count<'static>] = &[
-    Count::Does(Line::Fundx(10, "base", "a", 1)),
-    Count::Does(Line::Fundx(5, "base", "b", 1)),
+    Count::Does("fundx 10 base a 1"),
+    Count::Does("fundx 5 base b 1"),
     Count::Draws(0, (1, 0, 15), 2),
-    Count::Does(Line::Kill("a")),
-    Count::Refuses(Line::Kill("a"), Refusal::DeadThread),
-    Count::Does(Line::Unfund(1)),
+    Count::Does("kill a"),
+    Count::Refuses("kill a", Refusal::DeadThread),
+    Count::Does("unfund 1"),
     Count::Draws(4, (2, 4, 5), 0),
 ];
 
@@ -228,9 +228,9 @@ fn what_is_read(rt: HostRuntime) {
 }
 
 const TWO_FUNDED: &[Step<'static>] = &[
-    Step::Gives(Line::Fundx(10, "base", "a", 1), FIRST_FUNDED),
+    Step::Gives("fundx 10 base a 1", FIRST_FUNDED),
     Step::Gives(
-        Line::Fundx(5, "base", "b", 1),
+        "fundx 5 base b 1",
         Reply::Funded {
             ticket: 2,
             thread: 2,
@@ -309,7 +309,7 @@ fn a_draw_among_a_thousand(rt: HostRuntime) {
 #[test]
 fn an_idle_draw(rt: HostRuntime) {
     let mut kernel = largest(&rt, rt.alloc(), 1);
-    answer(&rt, &mut kernel, Line::Mkthr("a", 1));
+    answer(&rt, &mut kernel, "mkthr a 1");
     check_same(&rt, &kernel.event(&Event::Draw(1, 0)), &Reply::Idle);
     check_same(&rt, &kernel.meter(), &Meter::default());
 }

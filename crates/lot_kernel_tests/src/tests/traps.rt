@@ -126,19 +126,19 @@ fn two_processors(rt: HostRuntime) {
 }
 
 const WAITING_SERVER: &[Step<'static>] = &[
-    Step::Gives(Line::Mkthr("v", 1), Reply::Thread(1)),
+    Step::Gives("mkthr v 1", Reply::Thread(1)),
     Step::Gives(
-        Line::Fundx(400, "base", "c", 1),
+        "fundx 400 base c 1",
         Reply::Funded {
             ticket: 1,
             thread: 2,
         },
     ),
-    Step::Gives(Line::Mktkt(1, "base"), Reply::Ticket(2)),
-    Step::Gives(Line::Fund(2, "v"), Reply::Done),
+    Step::Gives("mktkt 1 base", Reply::Ticket(2)),
+    Step::Gives("fund 2 v", Reply::Done),
     Step::Wins(1, 0, (1, 0, 401), None),
     Step::Traps(1, Action::Receive(1), 1, Outcome::Waits),
-    Step::Gives(Line::Unfund(2), Reply::Done),
+    Step::Gives("unfund 2", Reply::Done),
     Step::Wins(1, 0, (2, 0, 400), None),
     Step::Traps(1, Action::Call(1, 9), 2, Outcome::ServedBy(1)),
     Step::Wins(1, 39999, (1, 39999, 40000), Some(9)),
@@ -155,25 +155,25 @@ fn a_call_to_a_server_that_waits(rt: HostRuntime) {
 }
 
 const QUEUED_CALL: &[Step<'static>] = &[
-    Step::Gives(Line::Mkcur("g"), Reply::Currency(1)),
-    Step::Gives(Line::Mktkt(300, "base"), Reply::Ticket(1)),
-    Step::Gives(Line::Fund(1, "g"), Reply::Done),
+    Step::Gives("mkcur g", Reply::Currency(1)),
+    Step::Gives("mktkt 300 base", Reply::Ticket(1)),
+    Step::Gives("fund 1 g", Reply::Done),
     Step::Gives(
-        Line::Fundx(100, "g", "c", 1),
+        "fundx 100 g c 1",
         Reply::Funded {
             ticket: 2,
             thread: 1,
         },
     ),
     Step::Gives(
-        Line::Fundx(100, "g", "x", 1),
+        "fundx 100 g x 1",
         Reply::Funded {
             ticket: 3,
             thread: 2,
         },
     ),
     Step::Gives(
-        Line::Fundx(10, "base", "y", 1),
+        "fundx 10 base y 1",
         Reply::Funded {
             ticket: 4,
             thread: 3,
@@ -282,8 +282,8 @@ const WORTHLESS_WAITERS: &[Step<'static>] = &[
     Step::Traps(1, Action::Lock(1), 2, Outcome::Waits),
     Step::Wins(1, 1500, (3, 1500, 1530), None),
     Step::Traps(1, Action::Lock(1), 3, Outcome::Waits),
-    Step::Gives(Line::Unfund(2), Reply::Done),
-    Step::Gives(Line::Unfund(3), Reply::Done),
+    Step::Gives("unfund 2", Reply::Done),
+    Step::Gives("unfund 3", Reply::Done),
     Step::Wins(1, 0, (1, 0, 500), None),
     Step::Traps(
         1,
@@ -692,8 +692,8 @@ const UNLENT: &[Step<'static>] = &[
     Step::Traps(1, Action::Call(1, 7), 4, Outcome::ServedBy(3)),
     Step::Wins(1, 0, (3, 0, 1000), Some(7)),
     Step::Traps(1, Action::Exit, 3, Outcome::Exited),
-    Step::Gives(Line::Unfund(3), Reply::Done),
-    Step::Gives(Line::Rmthr("c"), Reply::Refused(Refusal::InUse)),
+    Step::Gives("unfund 3", Reply::Done),
+    Step::Gives("rmthr c", Reply::Refused(Refusal::InUse)),
 ];
 
 /// Takes the steps in a new kernel without lending, with threads of these names and this much base each.

@@ -9,25 +9,10 @@ use std::test::*;
 
 /// Two tickets get names. The first can't be removed while it has a target. Once it is removed, another ticket gets its
 /// number.
-const NAMED: &str = "lottery 3
-for 1
-reuse
-script s
-compute 5
-endscript
-mkcur g
-mktkt 5 base as gift
-fundx 2 g a s as wage
-fund gift g
-settkt wage 4
-rmtkt gift
-unfund gift
-rmtkt gift
-mktkt 6 base
-rmtkt gift
-rmtkt 1
-unfund wage
-";
+const NAMED: &str =
+    "lottery 3\nfor 1\nreuse\nscript s\ncompute 5\nendscript\nmkcur g\nmktkt 5 base as gift\n\
+    fundx 2 g a s as wage\nfund gift g\nsettkt wage 4\nrmtkt gift\nunfund gift\nrmtkt gift\nmktkt 6 base\n\
+    rmtkt gift\nrmtkt 1\nunfund wage\n";
 
 /// The ticket of a command, if it has one, and the reply.
 type Row = (Option<u64>, Reply);

@@ -26,26 +26,13 @@ use std::io::Write;
 use std::process::Abort;
 
 /// Thread `a` has the only ticket: it wins both draws, and runs for two quanta of 2 ticks.
-const SCHEDULED: &str = "lottery 1
-quantum 2
-script spin
-compute 9
-endscript
-fundx 1 base a spin
-mkthr b spin
-schedule 0 0 1 1 1 1
-";
+const SCHEDULED: &str =
+    "lottery 1\nquantum 2\nscript spin\ncompute 9\nendscript\nfundx 1 base a spin\nmkthr b spin\n\
+    schedule 0 0 1 1 1 1\n";
 
 /// The input as a timed one.
-const TIMED: &str = "lottery 3
-quantum 2
-for 4
-script spin
-compute 9
-endscript
-fundx 1 base a spin
-mkthr b spin
-";
+const TIMED: &str =
+    "lottery 3\nquantum 2\nfor 4\nscript spin\ncompute 9\nendscript\nfundx 1 base a spin\nmkthr b spin\n";
 
 const INPUTS: &[&str] = &[SCHEDULED, TIMED];
 

@@ -30,14 +30,8 @@ use std::alloc::Global;
 use std::process::Abort;
 
 /// Two processors with two turns each, and one thread.
-const TWO_PROCESSORS: &str = "lottery 1
-processors 2
-turns 2
-script spin
-compute 150
-endscript
-fundx 10 base a spin
-";
+const TWO_PROCESSORS: &str =
+    "lottery 1\nprocessors 2\nturns 2\nscript spin\ncompute 150\nendscript\nfundx 10 base a spin\n";
 
 // The replies to turns of the actors 0, 1, 2, 1 and 2 in a system of it.
 

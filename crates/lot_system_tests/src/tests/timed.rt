@@ -13,31 +13,14 @@ use std::test::*;
 
 /// A thread made at tick 2. It runs for 4 ticks to the end of its quantum, and then for 2 ticks and the tick of its
 /// exit.
-pub(super) const COMES_LATER: &str = "lottery 3
-quantum 4
-for 12
-script s
-compute 6
-endscript
-at 2
-fundx 1 base a s
-";
+pub(super) const COMES_LATER: &str =
+    "lottery 3\nquantum 4\nfor 12\nscript s\ncompute 6\nendscript\nat 2\nfundx 1 base a s\n";
 
 /// Two threads that sleep at the same time. `b` goes to sleep first, and both wake at tick 15, while both processors
 /// wait. Then `a` sleeps to the last tick, and `b` past it.
-const SLEEPERS: &str = "lottery 3
-processors 2
-quantum 10
-for 30
-script long
-compute 4 sleep 10 compute 2 sleep 12
-endscript
-script short
-compute 1 sleep 13 compute 2 sleep 13
-endscript
-fundx 1 base a long
-fundx 1 base b short
-";
+const SLEEPERS: &str =
+    "lottery 3\nprocessors 2\nquantum 10\nfor 30\nscript long\ncompute 4 sleep 10 compute 2 sleep 12\nendscript\n\
+    script short\ncompute 1 sleep 13 compute 2 sleep 13\nendscript\nfundx 1 base a long\nfundx 1 base b short\n";
 
 /// The time of a turn, its actor, its thread, and the ticks that the thread ran.
 type Row = (u32, u32, u32, u32);

@@ -203,19 +203,9 @@ fn faults_in_order(rt: HostRuntime) {
 }
 
 /// Two scripts, and three threads that each have a processor to themselves.
-const THREE_PROCESSORS: &str = "lottery 1
-processors 3
-script s
-compute 150
-endscript
-script u
-add 1
-compute 150
-endscript
-fundx 1 base a s
-fundx 1 base b u
-fundx 1 base c s
-";
+const THREE_PROCESSORS: &str =
+    "lottery 1\nprocessors 3\nscript s\ncompute 150\nendscript\nscript u\nadd 1\ncompute 150\nendscript\n\
+    fundx 1 base a s\nfundx 1 base b u\nfundx 1 base c s\n";
 
 const SLICES_OF_OTHERS: &[Row] = &[
     (0, Given::Nothing, Came::Funded(1)),
@@ -243,14 +233,8 @@ fn slices_of_others(rt: HostRuntime) {
 }
 
 /// Locks, computes and ends.
-const LOCKER: &str = "lottery 1
-mutex m
-script s
-lock m
-compute 5
-endscript
-fundx 1 base a s
-";
+const LOCKER: &str =
+    "lottery 1\nmutex m\nscript s\nlock m\ncompute 5\nendscript\nfundx 1 base a s\n";
 
 /// The last turn has no room.
 const TWICE_IN_THREE: &[Row] = &[
@@ -290,13 +274,8 @@ fn slice_twice(rt: HostRuntime) {
 }
 
 /// Two processors and one thread.
-const TWO_PROCESSORS: &str = "lottery 1
-processors 2
-script spin
-compute 150
-endscript
-fundx 10 base a spin
-";
+const TWO_PROCESSORS: &str =
+    "lottery 1\nprocessors 2\nscript spin\ncompute 150\nendscript\nfundx 10 base a spin\n";
 
 const NO_ROOM: &[Row] = &[
     (0, Given::Nothing, Came::Full),
@@ -359,21 +338,9 @@ fn last_entry(rt: HostRuntime) {
 }
 
 /// One thread locks a mutex and yields, and the next one waits for it. The seed gives each draw its intended winner.
-const WAITING: &str = "lottery 1
-quantum 10
-seed 132
-mutex m
-script one
-lock m
-compute 2
-yield
-unlock m
-endscript
-fundx 3 base a one
-fundx 2 base b one
-fundx 1 base c one
-schedule 0 0 0 1 1 1 1 1 1 1
-";
+const WAITING: &str =
+    "lottery 1\nquantum 10\nseed 132\nmutex m\nscript one\nlock m\ncompute 2\nyield\nunlock m\nendscript\n\
+    fundx 3 base a one\nfundx 2 base b one\nfundx 1 base c one\nschedule 0 0 0 1 1 1 1 1 1 1\n";
 
 /// Compares the threads that wait for the first mutex, in order. None waits for another.
 fn check_waiters(rt: &impl Abort, alloc: Global, program: &Program, system: &System)

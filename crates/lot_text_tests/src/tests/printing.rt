@@ -3,6 +3,7 @@ ghost use Rattle.std.specs.Prelude.{◌≡◌, ◌<◌, ◌^◌, false};
 
 use super::same::check_same_at;
 use lot_io::{IoFault, Watched};
+use lot_kernel_tests::won;
 use lot_machine::{
     Action, CurrencyRow, Event, Kind, Limits, Name, Outcome, Refusal, Reply, Sizes, Status, Target,
     ThreadRow, TicketRow, TrapRefusal,
@@ -78,216 +79,110 @@ fn check_reply(rt: &impl Abort, alloc: Global, actor: u32, reply: Reply, wanted:
     check_event(rt, alloc, actor, &Event::Draw(1, 0), reply, wanted);
 }
 
-/// A reply to an event that isn't a trap, and its line.
-struct PrintedReply<'a> {
-    reply: Reply,
-    line: &'a str,
-}
-
-const REPLIES: &[PrintedReply<'static>] = &[
-    PrintedReply {
-        reply: Reply::Ticket(1),
-        line: "1 ticket 1\n",
-    },
-    PrintedReply {
-        reply: Reply::Currency(2),
-        line: "1 currency 2\n",
-    },
-    PrintedReply {
-        reply: Reply::Thread(1),
-        line: "1 thread 1\n",
-    },
-    PrintedReply {
-        reply: Reply::Funded {
-            ticket: 8,
-            thread: 3,
-        },
-        line: "1 funded 8 3\n",
-    },
-    PrintedReply {
-        reply: Reply::Done,
-        line: "1 done\n",
-    },
-    PrintedReply {
-        reply: Reply::Killed(3),
-        line: "1 done\n",
-    },
-    PrintedReply {
-        reply: Reply::Winner {
-            thread: 1,
-            number: 9,
-            total: 15,
-            delivered: None,
-        },
-        line: "1 draw 9 of 15 thread 1\n",
-    },
-    PrintedReply {
-        reply: Reply::Winner {
-            thread: 1,
-            number: 5,
-            total: 100,
-            delivered: Some(41),
-        },
-        line: "1 draw 5 of 100 thread 1 got 41\n",
-    },
-    PrintedReply {
-        reply: Reply::Idle,
-        line: "1 idle\n",
-    },
-    PrintedReply {
-        reply: Reply::Expired {
-            thread: 1,
-            ticks: 100,
-        },
-        line: "1 thread 1 ticks 100 expire\n",
-    },
-    PrintedReply {
-        reply: Reply::Refused(Refusal::Full),
-        line: "1 refused 13 Full\n",
-    },
-];
-
+/// Compares the lines of replies to events that aren't traps.
 #[test]
 fn prints_replies(rt: HostRuntime) {
-    for printed in REPLIES {
-        check_reply(&rt, rt.alloc(), 1, printed.reply, printed.line);
+    let funded = Reply::Funded {
+        ticket: 8,
+        thread: 3,
+    };
+    let expired = Reply::Expired {
+        thread: 1,
+        ticks: 100,
+    };
+    for (reply, line) in [
+        (Reply::Ticket(1), "1 ticket 1\n"),
+        (Reply::Currency(2), "1 currency 2\n"),
+        (Reply::Thread(1), "1 thread 1\n"),
+        (funded, "1 funded 8 3\n"),
+        (Reply::Done, "1 done\n"),
+        (Reply::Killed(3), "1 done\n"),
+        (won(1, 9, 15, None), "1 draw 9 of 15 thread 1\n"),
+        (
+            won(1, 5, 100, Some(41)),
+            "1 draw 5 of 100 thread 1 got 41\n",
+        ),
+        (Reply::Idle, "1 idle\n"),
+        (expired, "1 thread 1 ticks 100 expire\n"),
+        (Reply::Refused(Refusal::Full), "1 refused 13 Full\n"),
+    ] {
+        check_reply(&rt, rt.alloc(), 1, reply, line);
     }
 }
 
-/// A trap's outcome, whether it ends the quantum, and its line.
-#[derive(Drop)]
-struct PrintedTrap<'a> {
-    action: Action,
-    outcome: Outcome,
-    ends: bool,
-    line: &'a str,
-}
-
-fn check_trap(rt: &impl Abort, alloc: Global, printed: &PrintedTrap<'_>) {
-    let event = Event::Trap(1, 1, printed.action);
+/// Checks the line of a trap of thread 1 after 2 ticks, whose end this is.
+fn check_trap(rt: &impl Abort, alloc: Global, ends: bool, trap: (Action, Outcome), end: &str) {
+    let (action, outcome) = trap;
     let reply = Reply::Trapped {
         thread: 1,
         ticks: 2,
-        outcome: printed.outcome,
-        ends: printed.ends,
+        outcome,
+        ends,
     };
-    check_event(rt, alloc, 1, &event, reply, printed.line);
+    let wanted = format!(in alloc; "1 thread 1 ticks 2 {end}\n").expect(rt, "memory");
+    check_event(rt, alloc, 1, &Event::Trap(1, 1, action), reply, &wanted);
 }
 
-const TRAPS: &[PrintedTrap<'static>] = &[
-    PrintedTrap {
-        action: Action::Yield,
-        outcome: Outcome::Yielded,
-        ends: false,
-        line: "1 thread 1 ticks 2 yield\n",
-    },
-    PrintedTrap {
-        action: Action::Call(3, 41),
-        outcome: Outcome::ServedBy(4),
-        ends: false,
-        line: "1 thread 1 ticks 2 call 3 served by 4\n",
-    },
-    PrintedTrap {
-        action: Action::Call(3, 41),
-        outcome: Outcome::Queued,
-        ends: false,
-        line: "1 thread 1 ticks 2 call 3 queued\n",
-    },
-    PrintedTrap {
-        action: Action::Receive(3),
-        outcome: Outcome::Received {
-            client: 5,
-            number: 41,
-        },
-        ends: false,
-        line: "1 thread 1 ticks 2 receive 3 client 5 got 41\n",
-    },
-    PrintedTrap {
-        action: Action::Receive(3),
-        outcome: Outcome::Waits,
-        ends: false,
-        line: "1 thread 1 ticks 2 receive 3 waits\n",
-    },
-    PrintedTrap {
-        action: Action::Reply(42),
-        outcome: Outcome::Replied(5),
-        ends: false,
-        line: "1 thread 1 ticks 2 reply client 5\n",
-    },
-    PrintedTrap {
-        action: Action::Serve(3, 42),
-        outcome: Outcome::RepliedThenReceived {
-            to: 5,
-            client: 6,
-            number: 41,
-        },
-        ends: true,
-        line: "1 thread 1 ticks 2 reply client 5 receive 3 client 6 got 41 ends\n",
-    },
-    PrintedTrap {
-        action: Action::Serve(3, 42),
-        outcome: Outcome::RepliedThenWaits(5),
-        ends: false,
-        line: "1 thread 1 ticks 2 reply client 5 receive 3 waits\n",
-    },
-    PrintedTrap {
-        action: Action::Lock(4),
-        outcome: Outcome::Locked,
-        ends: true,
-        line: "1 thread 1 ticks 2 lock 4 taken ends\n",
-    },
-    PrintedTrap {
-        action: Action::Lock(4),
-        outcome: Outcome::Waits,
-        ends: false,
-        line: "1 thread 1 ticks 2 lock 4 waits\n",
-    },
-    PrintedTrap {
-        action: Action::Unlock(4, 99),
-        outcome: Outcome::Freed,
-        ends: false,
-        line: "1 thread 1 ticks 2 unlock 4 free\n",
-    },
-    PrintedTrap {
-        action: Action::Unlock(4, 99),
-        outcome: Outcome::Passed {
-            to: 6,
-            draw: Some((99, 400)),
-        },
-        ends: false,
-        line: "1 thread 1 ticks 2 unlock 4 to 6 draw 99 of 400\n",
-    },
-    PrintedTrap {
-        action: Action::Unlock(4, 99),
-        outcome: Outcome::Passed { to: 6, draw: None },
-        ends: false,
-        line: "1 thread 1 ticks 2 unlock 4 to 6 oldest\n",
-    },
-    PrintedTrap {
-        action: Action::Exit,
-        outcome: Outcome::Exited,
-        ends: false,
-        line: "1 thread 1 ticks 2 exit\n",
-    },
-    PrintedTrap {
-        action: Action::Sleep(()),
-        outcome: Outcome::Slept,
-        ends: false,
-        line: "1 thread 1 ticks 2 sleep\n",
-    },
-    PrintedTrap {
-        action: Action::Lock(4),
-        outcome: Outcome::Refused(TrapRefusal::LockCycle),
-        ends: true,
-        line: "1 thread 1 ticks 2 refused 36 LockCycle ends\n",
-    },
+const RECEIVED_FROM_5: Outcome = Outcome::Received {
+    client: 5,
+    number: 41,
+};
+
+const DRAWN_99: Outcome = Outcome::Passed {
+    to: 6,
+    draw: Some((99, 400)),
+};
+
+const TO_THE_OLDEST: Outcome = Outcome::Passed { to: 6, draw: None };
+
+const CALL: Action = Action::Call(3, 41);
+
+const RECEIVE: Action = Action::Receive(3);
+
+const SERVE: Action = Action::Serve(3, 42);
+
+const UNLOCK: Action = Action::Unlock(4, 99);
+
+/// Traps that don't end the quantum, their outcomes, and the ends of their lines.
+const TRAPS: &[(Action, Outcome, &str)] = &[
+    (Action::Yield, Outcome::Yielded, "yield"),
+    (CALL, Outcome::ServedBy(4), "call 3 served by 4"),
+    (CALL, Outcome::Queued, "call 3 queued"),
+    (RECEIVE, RECEIVED_FROM_5, "receive 3 client 5 got 41"),
+    (RECEIVE, Outcome::Waits, "receive 3 waits"),
+    (Action::Reply(42), Outcome::Replied(5), "reply client 5"),
+    (SERVE, WAITS, "reply client 5 receive 3 waits"),
+    (Action::Lock(4), Outcome::Waits, "lock 4 waits"),
+    (UNLOCK, Outcome::Freed, "unlock 4 free"),
+    (UNLOCK, DRAWN_99, "unlock 4 to 6 draw 99 of 400"),
+    (UNLOCK, TO_THE_OLDEST, "unlock 4 to 6 oldest"),
+    (Action::Exit, Outcome::Exited, "exit"),
+    (Action::Sleep(()), Outcome::Slept, "sleep"),
 ];
+
+const LOCK_CYCLE: Outcome = Outcome::Refused(TrapRefusal::LockCycle);
+
+/// Traps that end the quantum.
+const LAST_TRAPS: &[(Action, Outcome, &str)] = &[
+    (
+        SERVE,
+        RECEIVED,
+        "reply client 5 receive 3 client 6 got 41 ends",
+    ),
+    (Action::Lock(4), Outcome::Locked, "lock 4 taken ends"),
+    (Action::Lock(4), LOCK_CYCLE, "refused 36 LockCycle ends"),
+];
+
+fn check_traps(rt: &impl Abort, alloc: Global, ends: bool, traps: &[(Action, Outcome, &str)]) {
+    for (action, outcome, end) in traps {
+        check_trap(rt, alloc, ends, (*action, *outcome), end);
+    }
+}
 
 #[test]
 fn prints_traps(rt: HostRuntime) {
-    for printed in TRAPS {
-        check_trap(&rt, rt.alloc(), printed);
-    }
+    check_traps(&rt, rt.alloc(), false, TRAPS);
+    check_traps(&rt, rt.alloc(), true, LAST_TRAPS);
 }
 
 const REFUSALS: &[(Refusal, &str)] = &[
@@ -322,113 +217,46 @@ fn prints_refusals(rt: HostRuntime) {
 }
 
 const TRAP_REFUSALS: &[(TrapRefusal, &str)] = &[
-    (
-        TrapRefusal::NoPort,
-        "1 thread 1 ticks 2 refused 30 NoPort\n",
-    ),
-    (
-        TrapRefusal::NothingToReply,
-        "1 thread 1 ticks 2 refused 32 NothingToReply\n",
-    ),
-    (
-        TrapRefusal::NoMutex,
-        "1 thread 1 ticks 2 refused 33 NoMutex\n",
-    ),
-    (
-        TrapRefusal::NotOwner,
-        "1 thread 1 ticks 2 refused 34 NotOwner\n",
-    ),
-    (
-        TrapRefusal::AlreadyOwner,
-        "1 thread 1 ticks 2 refused 35 AlreadyOwner\n",
-    ),
-    (
-        TrapRefusal::LockCycle,
-        "1 thread 1 ticks 2 refused 36 LockCycle\n",
-    ),
+    (TrapRefusal::NoPort, "refused 30 NoPort"),
+    (TrapRefusal::NothingToReply, "refused 32 NothingToReply"),
+    (TrapRefusal::NoMutex, "refused 33 NoMutex"),
+    (TrapRefusal::NotOwner, "refused 34 NotOwner"),
+    (TrapRefusal::AlreadyOwner, "refused 35 AlreadyOwner"),
+    (TrapRefusal::LockCycle, "refused 36 LockCycle"),
 ];
-
-fn check_trap_refusal(rt: &impl Abort, alloc: Global, refusal: TrapRefusal, line: &str) {
-    let printed = PrintedTrap {
-        action: Action::Yield,
-        outcome: Outcome::Refused(refusal),
-        ends: false,
-        line,
-    };
-    check_trap(rt, alloc, &printed);
-}
 
 #[test]
 fn prints_trap_refusals(rt: HostRuntime) {
-    for (refusal, line) in TRAP_REFUSALS {
-        check_trap_refusal(&rt, rt.alloc(), *refusal, line);
+    for (refusal, end) in TRAP_REFUSALS {
+        let trap = (Action::Yield, Outcome::Refused(*refusal));
+        check_trap(&rt, rt.alloc(), false, trap, end);
     }
 }
 
-/// A refused line, the refusal, and the printed text.
-struct PrintedFault<'a> {
-    line: u32,
-    refusal: InputRefusal,
-    text: &'a str,
-}
-
-fn check_fault(rt: &impl Abort, alloc: Global, printed: &PrintedFault<'_>) {
-    let fault = InputFault {
-        line: printed.line,
-        refusal: printed.refusal,
-    };
+/// Checks the text of a refused line, whose end this is.
+fn check_fault(rt: &impl Abort, alloc: Global, line: u32, refusal: InputRefusal, end: &str) {
     let mut writer = Watched::new(Vec::new(alloc));
-    let ended = write_fault(&mut writer, fault);
-    check(rt, writer, ended, printed.text);
+    let ended = write_fault(&mut writer, InputFault { line, refusal });
+    let wanted = format!(in alloc; "refused line {end}\n").expect(rt, "memory");
+    check(rt, writer, ended, &wanted);
 }
 
-const FAULTS: &[PrintedFault<'static>] = &[
-    PrintedFault {
-        line: 1,
-        refusal: InputRefusal::BadHeader,
-        text: "refused line 1 50 BadHeader\n",
-    },
-    PrintedFault {
-        line: 2,
-        refusal: InputRefusal::BadLine,
-        text: "refused line 2 51 BadLine\n",
-    },
-    PrintedFault {
-        line: 2,
-        refusal: InputRefusal::BadNumber,
-        text: "refused line 2 52 BadNumber\n",
-    },
-    PrintedFault {
-        line: 3,
-        refusal: InputRefusal::UnknownName,
-        text: "refused line 3 53 UnknownName\n",
-    },
-    PrintedFault {
-        line: 2,
-        refusal: InputRefusal::OpenScript,
-        text: "refused line 2 54 OpenScript\n",
-    },
-    PrintedFault {
-        line: 11,
-        refusal: InputRefusal::TooDeep,
-        text: "refused line 11 55 TooDeep\n",
-    },
-    PrintedFault {
-        line: 2,
-        refusal: InputRefusal::TooLong,
-        text: "refused line 2 56 TooLong\n",
-    },
-    PrintedFault {
-        line: 2,
-        refusal: InputRefusal::BadActor,
-        text: "refused line 2 57 BadActor\n",
-    },
+/// Refused lines, their refusals, and the ends of the printed texts.
+const FAULTS: &[(u32, InputRefusal, &str)] = &[
+    (1, InputRefusal::BadHeader, "1 50 BadHeader"),
+    (2, InputRefusal::BadLine, "2 51 BadLine"),
+    (2, InputRefusal::BadNumber, "2 52 BadNumber"),
+    (3, InputRefusal::UnknownName, "3 53 UnknownName"),
+    (2, InputRefusal::OpenScript, "2 54 OpenScript"),
+    (11, InputRefusal::TooDeep, "11 55 TooDeep"),
+    (2, InputRefusal::TooLong, "2 56 TooLong"),
+    (2, InputRefusal::BadActor, "2 57 BadActor"),
 ];
 
 #[test]
 fn prints_faults(rt: HostRuntime) {
-    for printed in FAULTS {
-        check_fault(&rt, rt.alloc(), printed);
+    for (line, refusal, end) in FAULTS {
+        check_fault(&rt, rt.alloc(), *line, *refusal, end);
     }
 }
 
@@ -499,14 +327,6 @@ fn limits(rt: &impl Abort, unit: u32) -> Limits {
     limits.expect(rt, "limits")
 }
 
-/// A ticket's target, whether it is active, and its line with this unit.
-struct PrintedTicket<'a> {
-    target: Option<&'a str>,
-    is_active: bool,
-    unit: u32,
-    line: &'a str,
-}
-
 fn target_of(rt: &impl Abort, target: Option<&str>) -> Option<Name> {
     match target {
         Some(text) => Some(name(rt, text)),
@@ -514,61 +334,36 @@ fn target_of(rt: &impl Abort, target: Option<&str>) -> Option<Name> {
     }
 }
 
-fn ticket_row(rt: &impl Abort, printed: &PrintedTicket<'_>) -> TicketRow {
+fn ticket_row(rt: &impl Abort, target: Option<&str>, is_active: bool) -> TicketRow {
     TicketRow {
         amount: 1000,
         issuer: name(rt, "base"),
-        target: target_of(rt, printed.target),
-        funds: match printed.target {
+        target: target_of(rt, target),
+        funds: match target {
             Some(_) => Target::Thread(1),
             None => Target::Unfunded,
         },
-        is_active: printed.is_active,
+        is_active,
         value: 1000,
     }
 }
 
-fn check_ticket(rt: &impl Abort, alloc: Global, limits: Limits, row: &TicketRow, wanted: &str) {
+/// Checks the line of a ticket with this unit, whose end this is.
+fn check_ticket(rt: &impl Abort, alloc: Global, unit: u32, row: &TicketRow, end: &str) {
     let mut writer = Watched::new(Vec::new(alloc));
-    let ended = write_ticket(&mut writer, LineStyle::Whole, limits, 1, row);
-    check(rt, writer, ended, wanted);
+    let ended = write_ticket(&mut writer, LineStyle::Whole, limits(rt, unit), 1, row);
+    let wanted = format!(in alloc; "ticket 1 amount 1000 in base funds {end}\n");
+    check(rt, writer, ended, &wanted.expect(rt, "memory"));
 }
-
-const TICKETS: &[PrintedTicket<'static>] = &[
-    PrintedTicket {
-        target: Some("alice"),
-        is_active: true,
-        unit: 1,
-        line: "ticket 1 amount 1000 in base funds alice active value 1000\n",
-    },
-    PrintedTicket {
-        target: Some("alice"),
-        is_active: true,
-        unit: 256,
-        line: "ticket 1 amount 1000 in base funds alice active value 3\n",
-    },
-    PrintedTicket {
-        target: None,
-        is_active: false,
-        unit: 1,
-        line: "ticket 1 amount 1000 in base funds - inactive value 1000\n",
-    },
-];
 
 #[test]
 fn prints_tickets(rt: HostRuntime) {
-    for printed in TICKETS {
-        let row = ticket_row(&rt, printed);
-        let limits = limits(&rt, printed.unit);
-        check_ticket(&rt, rt.alloc(), limits, &row, printed.line);
-    }
-}
-
-/// The number of a currency, and its line where base is worth this unit.
-struct PrintedCurrency<'a> {
-    number: u32,
-    unit: u32,
-    line: &'a str,
+    let alloc = rt.alloc();
+    let row = ticket_row(&rt, Some("alice"), true);
+    check_ticket(&rt, alloc, 1, &row, "alice active value 1000");
+    check_ticket(&rt, alloc, 256, &row, "alice active value 3");
+    let row = ticket_row(&rt, None, false);
+    check_ticket(&rt, alloc, 1, &row, "- inactive value 1000");
 }
 
 fn currency_row(rt: &impl Abort) -> CurrencyRow {
@@ -581,42 +376,27 @@ fn currency_row(rt: &impl Abort) -> CurrencyRow {
     }
 }
 
-fn check_currency(
-    rt: &impl Abort,
-    alloc: Global,
-    row: &CurrencyRow,
-    printed: &PrintedCurrency<'_>,
-) {
-    let limits = limits(rt, printed.unit);
+/// Checks the line of the currency with this number, where base is worth this unit.
+fn check_currency(rt: &impl Abort, alloc: Global, number: u32, unit: u32, wanted: &str) {
+    let row = currency_row(rt);
     let mut writer = Watched::new(Vec::new(alloc));
-    let ended = write_currency(&mut writer, LineStyle::Whole, limits, printed.number, row);
-    check(rt, writer, ended, printed.line);
+    let ended = write_currency(
+        &mut writer,
+        LineStyle::Whole,
+        limits(rt, unit),
+        number,
+        &row,
+    );
+    check(rt, writer, ended, wanted);
 }
-
-const CURRENCIES: &[PrintedCurrency<'static>] = &[
-    PrintedCurrency {
-        number: 0,
-        unit: 1,
-        line: "currency 0 base backing 0 issued 2 active 3000 value 3000\n",
-    },
-    PrintedCurrency {
-        number: 0,
-        unit: 256,
-        line: "currency 0 base backing 0 issued 2 active 3000 value 3000\n",
-    },
-    PrintedCurrency {
-        number: 1,
-        unit: 256,
-        line: "currency 1 base backing 0 issued 2 active 3000 value 11\n",
-    },
-];
 
 #[test]
 fn prints_currencies(rt: HostRuntime) {
-    let row = currency_row(&rt);
-    for printed in CURRENCIES {
-        check_currency(&rt, rt.alloc(), &row, printed);
-    }
+    let base = "currency 0 base backing 0 issued 2 active 3000 value 3000\n";
+    check_currency(&rt, rt.alloc(), 0, 1, base);
+    check_currency(&rt, rt.alloc(), 0, 256, base);
+    let other = "currency 1 base backing 0 issued 2 active 3000 value 11\n";
+    check_currency(&rt, rt.alloc(), 1, 256, other);
 }
 
 const STATUSES: &[(Status, &str)] = &[
@@ -790,24 +570,20 @@ fn check_timed(rt: &impl Abort, alloc: Global, event: &Event, reply: Reply, want
 
 /// A draw of this number of this total, which thread 2 won.
 fn check_drawn(rt: &impl Abort, alloc: Global, number: u128, total: u128, wanted: &str) {
-    let reply = Reply::Winner {
-        thread: 2,
-        number,
-        total,
-        delivered: None,
-    };
+    let reply = won(2, number, total, None);
     check_timed(rt, alloc, &Event::Draw(1, 0), reply, wanted);
 }
 
-/// A trap of thread 3 after 7 ticks.
-fn check_trapped(rt: &impl Abort, alloc: Global, action: Action, outcome: Outcome, wanted: &str) {
+/// A trap of thread 3 after 7 ticks, and the end of its line.
+fn check_trapped(rt: &impl Abort, alloc: Global, action: Action, outcome: Outcome, end: &str) {
     let reply = Reply::Trapped {
         thread: 3,
         ticks: 7,
         outcome,
         ends: false,
     };
-    check_timed(rt, alloc, &Event::Trap(1, 6, action), reply, wanted);
+    let wanted = format!(in alloc; "120 1 thread 3 ticks 7 {end}\n").expect(rt, "memory");
+    check_timed(rt, alloc, &Event::Trap(1, 6, action), reply, &wanted);
 }
 
 /// The reply to the wake of thread 12.
@@ -831,23 +607,15 @@ const RECEIVED: Outcome = Outcome::RepliedThenReceived {
 /// A server's reply to thread 5, after which it waits.
 const WAITS: Outcome = Outcome::RepliedThenWaits(5);
 
-/// Traps, their outcomes, and their lines.
+/// Traps, their outcomes, and the ends of their lines.
 const TIMED_TRAPS: &[(Action, Outcome, &str)] = &[
-    (
-        Action::Unlock(4, 99),
-        PASSED,
-        "120 1 thread 3 ticks 7 unlock 4 to 5 draw 0.003 of 0.101\n",
-    ),
+    (UNLOCK, PASSED, "unlock 4 to 5 draw 0.003 of 0.101"),
     (
         Action::Serve(2, 9),
         RECEIVED,
-        "120 1 thread 3 ticks 7 reply client 5 receive 2 client 6 got 41\n",
+        "reply client 5 receive 2 client 6 got 41",
     ),
-    (
-        Action::Serve(2, 9),
-        WAITS,
-        "120 1 thread 3 ticks 7 reply client 5 receive 2 waits\n",
-    ),
+    (Action::Serve(2, 9), WAITS, "reply client 5 receive 2 waits"),
 ];
 
 // 2561 / 256 is 10.00390625, 384 / 256 is 1.5, and 64 / 256 is 0.25.

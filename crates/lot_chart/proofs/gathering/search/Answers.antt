@@ -1,4 +1,5 @@
-use Rattle.lot_chart.proofs.Lemmas.{HasFound, IsTrue, runner-there, some-injective, stands_below, subst, sym, world_of, ◌↔◌, ◌∙◌}
+use Rattle.lot_chart.proofs.Lemmas.{HasFound, IsTrue, some-injective, stands_below, subst, sym, world_of, ◌↔◌, ◌∙◌}
+use Rattle.lot_playback.proofs.TickFacts.{runner-there}
 use Rattle.lot_chart.proofs.gathering.search.Goals as goal
 
 pub find_above-requires-clause-thread : goal.find_above-requires-clause-thread

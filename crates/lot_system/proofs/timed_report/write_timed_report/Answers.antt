@@ -5,7 +5,7 @@ use Rattle.lot_system.proofs.timed_report.write_timed_report.Goals as goal
 
 -- the lines of each report
 abbrev lines : Seen → Timekeeper → Program → List ℕ
-lines s w program = timed_report_of (moment_in s w) (ended_at program (moment_in s w)) (timed_turns s.setting.program)
+lines s w program = timed_report_of program (moment_in s w) (ended_at program (moment_in s w)) (timed_turns s.setting.program)
 
 -- the line of an early end
 abbrev last : Seen → Timekeeper → Program → List ℕ

@@ -6,21 +6,9 @@ use std::alloc::Global;
 use std::process::Abort;
 
 /// Two threads wait for a mutex, and its owner passes it on by a lottery.
-const MUTEX_LOTTERY: &str = "lottery 1
-quantum 10
-seed 132
-mutex m
-script one
-lock m
-compute 2
-yield
-unlock m
-endscript
-fundx 3 base a one
-fundx 2 base b one
-fundx 1 base c one
-schedule 0 0 0 1 1 1 1 1 1 1 1 1
-";
+const MUTEX_LOTTERY: &str =
+    "lottery 1\nquantum 10\nseed 132\nmutex m\nscript one\nlock m\ncompute 2\nyield\nunlock m\nendscript\n\
+    fundx 3 base a one\nfundx 2 base b one\nfundx 1 base c one\nschedule 0 0 0 1 1 1 1 1 1 1 1 1\n";
 
 /// Its explanation, worked out by hand.
 const EXPLAINED: &str = "0 funded 1 1
@@ -55,19 +43,9 @@ total turns 12 quanta 4 ticks 7
 ";
 
 /// A thread that uses a third of its quantum, and one that uses all of it.
-const IN_TIME: &str = "lottery 3
-quantum 9
-for 12
-seed 5
-script short
-compute 2 yield
-endscript
-script long
-compute 9
-endscript
-fundx 1 base a short
-fundx 1 base b long
-";
+const IN_TIME: &str =
+    "lottery 3\nquantum 9\nfor 12\nseed 5\nscript short\ncompute 2 yield\nendscript\n\
+    script long\ncompute 9\nendscript\nfundx 1 base a short\nfundx 1 base b long\n";
 
 /// Its explanation, worked out by hand.
 const EXPLAINED_IN_TIME: &str = "0 0 funded 1 1
@@ -92,26 +70,10 @@ total turns 7 quanta 3 ticks 12 refused 0 left 0
 
 /// Two threads of one currency and one outside. Tickets get other amounts: first one inside the currency, then the one
 /// that funds it. Two such commands are refused.
-const OTHER_AMOUNTS: &str = "lottery 3
-for 300
-seed 14
-script s
-compute 1000
-endscript
-mkcur g
-mktkt 10 base
-fund 1 g
-fundx 1 g a s
-fundx 1 g b s
-fundx 5 base c s
-at 150
-settkt 9 0
-settkt 9 4
-settkt 3 4
-lsthr
-at 250
-settkt 1 5
-";
+const OTHER_AMOUNTS: &str =
+    "lottery 3\nfor 300\nseed 14\nscript s\ncompute 1000\nendscript\nmkcur g\nmktkt 10 base\nfund 1 g\n\
+    fundx 1 g a s\nfundx 1 g b s\nfundx 5 base c s\nat 150\nsettkt 9 0\nsettkt 9 4\nsettkt 3 4\nlsthr\nat 250\n\
+    settkt 1 5\n";
 
 /// Its explanation, worked out by hand. Of the currency's 10 the first two threads have 5 and 5, then 2 and 8; when it
 /// has 5, they have 1 and 4.
@@ -158,25 +120,10 @@ total turns 18 quanta 4 ticks 300 refused 2 left 0
 ";
 
 /// A thread is removed once it has ended and no ticket funds it. Another gets its name, and a number of its own.
-const REMOVAL: &str = "lottery 3
-quantum 10
-for 15
-script short
-compute 4
-endscript
-script long
-compute 1000
-endscript
-fundx 3 base a short
-fundx 1 base b long
-rmthr a
-at 8
-rmthr a
-unfund 1
-rmthr a
-rmthr a
-fundx 3 base a short
-";
+const REMOVAL: &str =
+    "lottery 3\nquantum 10\nfor 15\nscript short\ncompute 4\nendscript\nscript long\ncompute 1000\nendscript\n\
+    fundx 3 base a short\nfundx 1 base b long\nrmthr a\nat 8\nrmthr a\nunfund 1\nrmthr a\nrmthr a\n\
+    fundx 3 base a short\n";
 
 /// Its explanation, worked out by hand. The removed thread takes part in no lottery and has no line in the report, but
 /// its 5 ticks count in the shares.
@@ -206,19 +153,9 @@ total turns 13 quanta 3 ticks 15 refused 3 left 0 ended 1 mean 5 longest 5
 ";
 
 /// A thread that sleeps twice beside one that computes. Its second sleep would end after the end.
-const SLEEPER: &str = "lottery 3
-quantum 10
-for 20
-seed 2
-script nap
-compute 1 sleep 3 sleep 12
-endscript
-script work
-compute 30
-endscript
-fundx 1 base a nap
-fundx 1 base b work
-";
+const SLEEPER: &str =
+    "lottery 3\nquantum 10\nfor 20\nseed 2\nscript nap\ncompute 1 sleep 3 sleep 12\nendscript\n\
+    script work\ncompute 30\nendscript\nfundx 1 base a nap\nfundx 1 base b work\n";
 
 /// Its explanation, computed by a small model of the rules. While the thread sleeps it takes part in no draw, and a
 /// wake has no explanation. Afterwards it weighs five times as much, since it used a fifth of its quantum.
@@ -247,31 +184,11 @@ total turns 10 quanta 4 ticks 13 refused 0 left 0
 
 /// A server waits for a mutex while it serves a client, so the client's loan goes on to the owner. Another thread waits
 /// for the mutex too, until it loses its only ticket.
-const LENDERS: &str = "lottery 3
-quantum 10
-for 34
-seed 6
-port p
-mutex m
-script own
-lock m compute 1000
-endscript
-script serve
-receive p lock m reply
-endscript
-script ask
-compute 1 call p
-endscript
-script want
-lock m
-endscript
-fundx 5 base o own
-fundx 1 base s serve
-fundx 3 base c ask
-fundx 2 base z want
-at 25
-unfund 4
-";
+const LENDERS: &str =
+    "lottery 3\nquantum 10\nfor 34\nseed 6\nport p\nmutex m\nscript own\nlock m compute 1000\nendscript\n\
+    script serve\nreceive p lock m reply\nendscript\nscript ask\ncompute 1 call p\nendscript\n\
+    script want\nlock m\nendscript\nfundx 5 base o own\nfundx 1 base s serve\nfundx 3 base c ask\n\
+    fundx 2 base z want\nat 25\nunfund 4\n";
 
 /// Its explanation, computed by a small model of the rules. The caller of the queued call lends to nobody, and a thread
 /// that is worth 0 has no loan.

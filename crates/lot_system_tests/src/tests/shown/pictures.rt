@@ -9,18 +9,9 @@ use std::alloc::Global;
 use std::process::Abort;
 
 /// Thread 1 ends at tick 2. At tick 3 it is removed, and thread 2 gets its name and runs for 2 ticks.
-const REMOVED: &str = "lottery 3
-quantum 10
-for 6
-script short
-compute 1
-endscript
-fundx 1 base a short
-at 3
-unfund 1
-rmthr a
-fundx 1 base a short
-";
+const REMOVED: &str =
+    "lottery 3\nquantum 10\nfor 6\nscript short\ncompute 1\nendscript\nfundx 1 base a short\nat 3\nunfund 1\n\
+    rmthr a\nfundx 1 base a short\n";
 
 /// Writes the table of the input, and compares the outcome and the output.
 fn check_shares(

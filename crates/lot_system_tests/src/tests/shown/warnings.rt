@@ -28,7 +28,7 @@ fn check<H: Abort>(rt: &H, alloc: Global, input: &str, expected: &str) {
     check_said(rt, words.as_slice(), expected)
 }
 
-/// An input, or its commands, and the words.
+/// An input, and the words.
 type Row = (&'static str, &'static str);
 
 /// Checks each of these inputs.
@@ -38,9 +38,11 @@ fn check_all<H: Abort>(rt: &H, alloc: Global, rows: &[Row]) {
     }
 }
 
-/// Checks, for each row, a timed input of its commands, with a script `spin` and a script `stop`.
-fn check_commands<H: Abort>(rt: &H, alloc: Global, rows: &[Row]) {
-    for (commands, expected) in rows {
+/// Checks, for each row, a timed input of the commands before its arrow, with a script `spin` and a script `stop`. The
+/// words stand behind the arrow.
+fn check_commands<H: Abort>(rt: &H, alloc: Global, rows: &[&str]) {
+    for row in rows {
+        let (commands, expected) = row.split_once(" -> ").unwrap_or((*row, ""));
         let input = format!(in alloc;
             "lottery 3\nfor 9\nscript spin\ncompute 99 endscript\nscript stop\nendscript\n{commands}"
         );
@@ -49,37 +51,19 @@ fn check_commands<H: Abort>(rt: &H, alloc: Global, rows: &[Row]) {
     }
 }
 
-const UNKNOWN_NAMES: &[Row] = &[
-    (
-        "mkcur alice\nmktkt 5 base\nfund 1 alcie\n",
-        "line 9: the command was refused: no currency and no thread has the name 'alcie'; did you mean 'alice'?\n",
-    ),
-    (
-        "fundx 1 base mallory spin\nmktkt 5 base\nfund 2 malory\n",
-        "line 9: the command was refused: no currency and no thread has the name 'malory'; did you mean \
-         'mallory'?\n",
-    ),
-    (
-        "mkcur group\nmktkt 5 groop\n",
-        "line 8: the command was refused: no currency has the name 'groop'; did you mean 'group'?\n",
-    ),
-    (
-        "mktkt 5 bass\n",
-        "line 7: the command was refused: no currency has the name 'bass'; did you mean 'base'?\n",
-    ),
-    (
-        "fundx 5 bse a spin\n",
-        "line 7: the command was refused: no currency has the name 'bse'; did you mean 'base'?\n",
-    ),
-    (
-        "fundx 1 base worker spin\nkill workers\n",
-        "line 8: the command was refused: no thread has the name 'workers'; did you mean 'worker'?\n",
-    ),
-    (
-        "fundx 1 base a spin\nmkthr b spinn\n",
-        "line 8: the command was refused: no script of an earlier line has the name 'spinn'; did you mean \
-         'spin'?\n",
-    ),
+const UNKNOWN_NAMES: &[&str] = &[
+    "mkcur alice\nmktkt 5 base\nfund 1 alcie\n -> \
+    line 9: the command was refused: no currency and no thread has the name 'alcie'; did you mean 'alice'?\n",
+    "fundx 1 base mallory spin\nmktkt 5 base\nfund 2 malory\n -> \
+    line 9: the command was refused: no currency and no thread has the name 'malory'; did you mean 'mallory'?\n",
+    "mkcur group\nmktkt 5 groop\n -> \
+    line 8: the command was refused: no currency has the name 'groop'; did you mean 'group'?\n",
+    "mktkt 5 bass\n -> line 7: the command was refused: no currency has the name 'bass'; did you mean 'base'?\n",
+    "fundx 5 bse a spin\n -> line 7: the command was refused: no currency has the name 'bse'; did you mean 'base'?\n",
+    "fundx 1 base worker spin\nkill workers\n -> \
+    line 8: the command was refused: no thread has the name 'workers'; did you mean 'worker'?\n",
+    "fundx 1 base a spin\nmkthr b spinn\n -> \
+    line 8: the command was refused: no script of an earlier line has the name 'spinn'; did you mean 'spin'?\n",
 ];
 
 // Lines 1 to 6 are the header and the scripts.
@@ -88,27 +72,13 @@ fn unknown_names(rt: HostRuntime) {
     check_commands(&rt, rt.alloc(), UNKNOWN_NAMES)
 }
 
-const NO_NAME_IS_NEAR: &[Row] = &[
-    (
-        "mkcur alice\nmktkt 5 base\nfund 1 bob\n",
-        "line 9: the command was refused: no currency and no thread has the name 'bob'\n",
-    ),
-    (
-        "mkcur alice\nkill alicf\n",
-        "line 8: the command was refused: no thread has the name 'alicf'\n",
-    ),
-    (
-        "fundx 1 base alice spin\nrmcur alicf\n",
-        "line 8: the command was refused: no currency has the name 'alicf'\n",
-    ),
-    (
-        "mktkt 5 base\nfund 1 bas\n",
-        "line 8: the command was refused: no currency and no thread has the name 'bas'\n",
-    ),
-    (
-        "fundx 1 base b spin\nkill a\n",
-        "line 8: the command was refused: no thread has the name 'a'\n",
-    ),
+const NO_NAME_IS_NEAR: &[&str] = &[
+    "mkcur alice\nmktkt 5 base\nfund 1 bob\n -> \
+    line 9: the command was refused: no currency and no thread has the name 'bob'\n",
+    "mkcur alice\nkill alicf\n -> line 8: the command was refused: no thread has the name 'alicf'\n",
+    "fundx 1 base alice spin\nrmcur alicf\n -> line 8: the command was refused: no currency has the name 'alicf'\n",
+    "mktkt 5 base\nfund 1 bas\n -> line 8: the command was refused: no currency and no thread has the name 'bas'\n",
+    "fundx 1 base b spin\nkill a\n -> line 8: the command was refused: no thread has the name 'a'\n",
 ];
 
 // A currency is no thread, and a thread no currency, so neither is suggested for the other. Base can't be funded.
@@ -117,19 +87,13 @@ fn no_name_is_near(rt: HostRuntime) {
     check_commands(&rt, rt.alloc(), NO_NAME_IS_NEAR)
 }
 
-const NAMES_OF_ANOTHER_TIME: &[Row] = &[
-    (
-        "fundx 1 base alice stop\nmkcur alicf\nat 5\nunfund 1\nrmthr alice\nrmthr alice\n",
-        "line 12: the command was refused: no thread has the name 'alice'\n",
-    ),
-    (
-        "mktkt 5 base\nfund 1 alice\nmkcur alice\nmkcur alicf\n",
-        "line 8: the command was refused: no currency and no thread has the name 'alice'\n",
-    ),
-    (
-        "mkthr a late\nscript late\nendscript\n",
-        "line 7: the command was refused: no script of an earlier line has the name 'late'\n",
-    ),
+const NAMES_OF_ANOTHER_TIME: &[&str] = &[
+    "fundx 1 base alice stop\nmkcur alicf\nat 5\nunfund 1\nrmthr alice\nrmthr alice\n -> \
+    line 12: the command was refused: no thread has the name 'alice'\n",
+    "mktkt 5 base\nfund 1 alice\nmkcur alice\nmkcur alicf\n -> \
+    line 8: the command was refused: no currency and no thread has the name 'alice'\n",
+    "mkthr a late\nscript late\nendscript\n -> \
+    line 7: the command was refused: no script of an earlier line has the name 'late'\n",
 ];
 
 // Thread `alice` ends at its first tick. The name of a removed thread, or one given by a later line, is no misspelling.
@@ -138,32 +102,17 @@ fn names_of_another_time(rt: HostRuntime) {
     check_commands(&rt, rt.alloc(), NAMES_OF_ANOTHER_TIME)
 }
 
-const WORDS_THAT_ARE_THE_CAUSE: &[Row] = &[
-    (
-        "mkcur alice\nmkthr alice spin\n",
-        "line 8: the command was refused: a currency or a thread already has the name 'alice'\n",
-    ),
-    (
-        "fundx 5 base Alice spin\n",
-        "line 7: the command was refused: a name is a letter a to z, and then letters a to z, digits, '_' or \
-         '-', and not 'Alice'\n",
-    ),
-    (
-        "rmtkt 7\n",
-        "line 7: the command was refused: no ticket has the number 7\n",
-    ),
-    (
-        "mktkt 0 base\n",
-        "line 7: the command was refused: an amount is a number from 1 to 4294967295, and not 0\n",
-    ),
-    (
-        "mktkt 1 base\nsettkt 1 4294967296\n",
-        "line 8: the command was refused: an amount is a number from 1 to 4294967295, and not 4294967296\n",
-    ),
-    (
-        "mktkt 1 base\nunfund 1\n",
-        "line 8: the command was refused: the ticket funds nothing\n",
-    ),
+const WORDS_THAT_ARE_THE_CAUSE: &[&str] = &[
+    "mkcur alice\nmkthr alice spin\n -> \
+    line 8: the command was refused: a currency or a thread already has the name 'alice'\n",
+    "fundx 5 base Alice spin\n -> \
+    line 7: the command was refused: a name is a letter a to z, and then letters a to z, digits, '_' or '-', and not \
+    'Alice'\n",
+    "rmtkt 7\n -> line 7: the command was refused: no ticket has the number 7\n",
+    "mktkt 0 base\n -> line 7: the command was refused: an amount is a number from 1 to 4294967295, and not 0\n",
+    "mktkt 1 base\nsettkt 1 4294967296\n -> \
+    line 8: the command was refused: an amount is a number from 1 to 4294967295, and not 4294967296\n",
+    "mktkt 1 base\nunfund 1\n -> line 8: the command was refused: the ticket funds nothing\n",
 ];
 
 #[test]
@@ -171,27 +120,16 @@ fn words_that_are_the_cause(rt: HostRuntime) {
     check_commands(&rt, rt.alloc(), WORDS_THAT_ARE_THE_CAUSE)
 }
 
-const THREADS_THAT_WEIGH_NOTHING: &[Row] = &[
-    (
-        "mkthr a spin\n",
-        "thread 'a' is ready at the end and weighs nothing: it wins no draw before something funds it\n",
-    ),
-    (
-        "mkcur x\nfundx 5 x a spin\n",
-        "thread 'a' is ready at the end and weighs nothing: it wins no draw before something funds its currency 'x'\n",
-    ),
-    (
-        "mkcur x\nmkcur y\nmktkt 5 x\nfund 1 y\nfundx 5 y a spin\n",
-        "thread 'a' is ready at the end and weighs nothing: it wins no draw before something funds its currency 'x'\n",
-    ),
-    (
-        "mkcur x\nmktkt 1 base\nfund 1 x\nfundx 5 x a spin\nunfund 1\n",
-        "thread 'a' is ready at the end and weighs nothing: it wins no draw before something funds its currency 'x'\n",
-    ),
-    (
-        "mkcur x\nmktkt 1 base\nfund 1 x\nfundx 1 x a spin\nfundx 4294967295 x b spin\n",
-        "thread 'a' is ready at the end and weighs nothing: it is funded, but its value rounds to 0\n",
-    ),
+const THREADS_THAT_WEIGH_NOTHING: &[&str] = &[
+    "mkthr a spin\n -> thread 'a' is ready at the end and weighs nothing: it wins no draw before something funds it\n",
+    "mkcur x\nfundx 5 x a spin\n -> \
+    thread 'a' is ready at the end and weighs nothing: it wins no draw before something funds its currency 'x'\n",
+    "mkcur x\nmkcur y\nmktkt 5 x\nfund 1 y\nfundx 5 y a spin\n -> \
+    thread 'a' is ready at the end and weighs nothing: it wins no draw before something funds its currency 'x'\n",
+    "mkcur x\nmktkt 1 base\nfund 1 x\nfundx 5 x a spin\nunfund 1\n -> \
+    thread 'a' is ready at the end and weighs nothing: it wins no draw before something funds its currency 'x'\n",
+    "mkcur x\nmktkt 1 base\nfund 1 x\nfundx 1 x a spin\nfundx 4294967295 x b spin\n -> \
+    thread 'a' is ready at the end and weighs nothing: it is funded, but its value rounds to 0\n",
 ];
 
 // Base's ticket of 1 has 256 units of value, of which a's part is 256 / 4294967296.
@@ -202,17 +140,8 @@ fn threads_that_weigh_nothing(rt: HostRuntime) {
 
 /// Ticket 1 of `base` is worth 1, and each thread has half of it.
 const ROUNDED: Row = (
-    "lottery 1
-script s
-compute 5
-endscript
-mkcur x
-mktkt 1 base
-fund 1 x
-fundx 1000 x a s
-fundx 1000 x b s
-schedule 0 0 0 0 0
-",
+    "lottery 1\nscript s\ncompute 5\nendscript\nmkcur x\nmktkt 1 base\nfund 1 x\nfundx 1000 x a s\n\
+    fundx 1000 x b s\nschedule 0 0 0 0 0\n",
     "thread 'a' is ready at the end and weighs nothing: it is funded, but its value rounds to 0
 thread 'b' is ready at the end and weighs nothing: it is funded, but its value rounds to 0
 ",
@@ -223,16 +152,11 @@ fn rounded_values(rt: HostRuntime) {
     check_all(&rt, rt.alloc(), &[ROUNDED])
 }
 
-const TIMES_AFTER_THE_END: &[Row] = &[
-    (
-        "fundx 1 base a spin\nat 9\nmkcur b\nat 10\nmkcur c\n",
-        "line 11: this command was never made: tick 10 is after the end of the run at 9\n",
-    ),
-    (
-        "fundx 1 base a spin\nat 5000\nmkcur c\nat 6000\nmkcur d\n",
-        "line 9: this command and those after it, 2 in all, were never made: tick 5000 is after the end of the run \
-         at 9\n",
-    ),
+const TIMES_AFTER_THE_END: &[&str] = &[
+    "fundx 1 base a spin\nat 9\nmkcur b\nat 10\nmkcur c\n -> \
+    line 11: this command was never made: tick 10 is after the end of the run at 9\n",
+    "fundx 1 base a spin\nat 5000\nmkcur c\nat 6000\nmkcur d\n -> \
+    line 9: this command and those after it, 2 in all, were never made: tick 5000 is after the end of the run at 9\n",
 ];
 
 // A command at the end of the run is made, and none after it.
@@ -276,21 +200,13 @@ fn limits(rt: HostRuntime) {
     check_all(&rt, rt.alloc(), LIMITS)
 }
 
-const TICKETS_BY_NAME: &[Row] = &[
-    (
-        "mktkt 5 base as gift\nrmtkt gift\nrmtkt gift\n",
-        "line 9: the command was refused: no ticket has the name 'gift' now\n",
-    ),
-    (
-        "mktkt 0 base as gift\nfund gift base\n",
-        "line 7: the command was refused: an amount is a number from 1 to 4294967295, and not 0
-line 8: the command was refused: no ticket has the name 'gift' now
-",
-    ),
-    (
-        "mktkt 5 base as gift\nunfund gift\n",
-        "line 8: the command was refused: the ticket funds nothing\n",
-    ),
+const TICKETS_BY_NAME: &[&str] = &[
+    "mktkt 5 base as gift\nrmtkt gift\nrmtkt gift\n -> \
+    line 9: the command was refused: no ticket has the name 'gift' now\n",
+    "mktkt 0 base as gift\nfund gift base\n -> \
+    line 7: the command was refused: an amount is a number from 1 to 4294967295, and not 0\n\
+    line 8: the command was refused: no ticket has the name 'gift' now\n",
+    "mktkt 5 base as gift\nunfund gift\n -> line 8: the command was refused: the ticket funds nothing\n",
 ];
 
 #[test]
@@ -299,47 +215,19 @@ fn tickets_by_name(rt: HostRuntime) {
 }
 
 /// The second command is refused, so the third is never made.
-const STRICT: &str = "lottery 3
-for 9
-strict
-mktkt 5 base
-fund 1 alice
-mkcur alice
-";
+const STRICT: &str = "lottery 3\nfor 9\nstrict\nmktkt 5 base\nfund 1 alice\nmkcur alice\n";
 
 /// Thread `a` unlocks a mutex that it doesn't own.
-const STRICT_TRAP: &str = "lottery 3
-for 9
-strict
-mutex m
-script unlocks
-unlock m yield endscript
-fundx 5 base a unlocks
-";
+const STRICT_TRAP: &str =
+    "lottery 3\nfor 9\nstrict\nmutex m\nscript unlocks\nunlock m yield endscript\nfundx 5 base a unlocks\n";
 
 /// The last turn is refused, and the command after it comes after the end.
-const STRICT_AND_LATE: &str = "lottery 3
-for 5
-strict
-script s
-compute 900 endscript
-fundx 1 base a s
-at 3
-rmcur base
-at 6
-lstkt
-";
+const STRICT_AND_LATE: &str =
+    "lottery 3\nfor 5\nstrict\nscript s\ncompute 900 endscript\nfundx 1 base a s\nat 3\nrmcur base\nat 6\nlstkt\n";
 
 /// After the refusal come a command up to the end of the run and two after it.
-const STRICT_AND_BOTH: &str = "lottery 3
-for 9
-strict
-rmtkt 1
-mkcur a
-at 10
-mkcur b
-mkcur c
-";
+const STRICT_AND_BOTH: &str =
+    "lottery 3\nfor 9\nstrict\nrmtkt 1\nmkcur a\nat 10\nmkcur b\nmkcur c\n";
 
 const STRICT_INPUTS: &[Row] = &[
     (
@@ -378,127 +266,38 @@ fn strict_inputs(rt: HostRuntime) {
 
 /// No thread serves at port `print`, the second. Thread `own` ends with mutex `gate`, the second, and with the client
 /// `ask`, whose call at port `mail` it took.
-const WAITING: &str = "lottery 3
-for 99
-# port paper
-port mail
-mutex door
-port print
-mutex gate
-script owner
-lock gate receive mail
-endscript
-script asks
-lock door call mail
-endscript
-script prints
-call print
-endscript
-script enters
-yield sleep 20 lock gate
-endscript
-script knocks
-yield sleep 20 lock door
-endscript
-fundx 9 base own owner
-fundx 1 base ask asks
-fundx 1 base sheet prints
-fundx 1 base guest enters
-fundx 1 base late knocks
-";
+const WAITING: &str =
+    "lottery 3\nfor 99\n# port paper\nport mail\nmutex door\nport print\nmutex gate\n\
+    script owner\nlock gate receive mail\nendscript\nscript asks\nlock door call mail\nendscript\n\
+    script prints\ncall print\nendscript\nscript enters\nyield sleep 20 lock gate\nendscript\n\
+    script knocks\nyield sleep 20 lock door\nendscript\nfundx 9 base own owner\nfundx 1 base ask asks\n\
+    fundx 1 base sheet prints\nfundx 1 base guest enters\nfundx 1 base late knocks\n";
 
 /// While `a` sleeps with mutex `m`, `b` takes `n` and waits for `m`. So `a` would wait for a thread that waits for it.
-const DEADLOCK: &str = "lottery 3
-for 99
-mutex m
-mutex n
-script sleeps
-lock m sleep 20
-loop 3 lock n end
-unlock n unlock m
-endscript
-script waits
-lock n lock m
-unlock m unlock n
-endscript
-fundx 1 base a sleeps
-at 5
-fundx 1 base b waits
-";
+const DEADLOCK: &str = "lottery 3\nfor 99\nmutex m\nmutex n\n\
+    script sleeps\nlock m sleep 20\nloop 3 lock n end\nunlock n unlock m\nendscript\n\
+    script waits\nlock n lock m\nunlock m unlock n\nendscript\nfundx 1 base a sleeps\nat 5\nfundx 1 base b waits\n";
 
 /// Thread `b` calls `a` while it owns mutex `m`, so `a` would wait for its own client.
-const DEADLOCK_OF_A_SERVER: &str = "lottery 2
-port p
-mutex m
-script serves
-receive p
-lock m
-lock m
-# lock m
-set 5
-lock m
-reply
-reply
-endscript
-script calls
-lock m
-call p
-endscript
-fundx 1 base a serves
-fundx 1 base b calls
-schedule 0 1 1 0 1 1 1 1 1 1 1 1 1 1 1 1
-";
+const DEADLOCK_OF_A_SERVER: &str = "lottery 2\nport p\nmutex m\n\
+    script serves\nreceive p\nlock m\nlock m\n# lock m\nset 5\nlock m\nreply\nreply\nendscript\n\
+    script calls\nlock m\ncall p\nendscript\nfundx 1 base a serves\nfundx 1 base b calls\n\
+    schedule 0 1 1 0 1 1 1 1 1 1 1 1 1 1 1 1\n";
 
 /// Each thread has four traps refused.
-const MANY: &str = "lottery 3
-for 99
-port p
-mutex m
-script all
-reply serve p unlock m
-lock m lock m unlock m
-endscript
-fundx 1 base a all
-at 20
-fundx 1 base b all
-at 40
-fundx 1 base c all
-";
+const MANY: &str =
+    "lottery 3\nfor 99\nport p\nmutex m\nscript all\nreply serve p unlock m\nlock m lock m unlock m\nendscript\n\
+    fundx 1 base a all\nat 20\nfundx 1 base b all\nat 40\nfundx 1 base c all\n";
 
 /// The second thread has the number and the name of the first, and another script.
-const AGAIN: &str = "lottery 3
-for 50
-reuse
-mutex m
-script once
-unlock m
-endscript
-script twice
-unlock m unlock m
-endscript
-fundx 1 base a once
-at 10
-unfund 1
-rmthr a
-fundx 1 base a twice
-";
+const AGAIN: &str = "lottery 3\nfor 50\nreuse\nmutex m\nscript once\nunlock m\nendscript\n\
+    script twice\nunlock m unlock m\nendscript\nfundx 1 base a once\nat 10\nunfund 1\nrmthr a\n\
+    fundx 1 base a twice\n";
 
 /// Thread `own` has ended with mutex `m`, for which `guest` waits, while `spin` runs.
-const WAITING_BESIDE_A_SPINNER: &str = "lottery 3
-for 300
-quantum 10
-mutex m
-script o
-lock m endscript
-script g
-lock m compute 900 endscript
-script s
-compute 900 endscript
-fundx 9 base own o
-at 3
-fundx 1 base guest g
-fundx 1 base spin s
-";
+const WAITING_BESIDE_A_SPINNER: &str =
+    "lottery 3\nfor 300\nquantum 10\nmutex m\nscript o\nlock m endscript\nscript g\nlock m compute 900 endscript\n\
+    script s\ncompute 900 endscript\nfundx 9 base own o\nat 3\nfundx 1 base guest g\nfundx 1 base spin s\n";
 
 const WAITS_AND_REFUSED_TRAPS: &[Row] = &[
     (

@@ -5,10 +5,12 @@ use super::reads::may_read;
 use crate::tests::same::check_same;
 use lot_draw::ParkMiller;
 use lot_kernel::{
-    Action, Command, CurrencyNumber, Event, Kernel, Kind, Limits, Meter, Name, Sizes, ThreadNumber,
+    Action, Command, CurrencyNumber, Event, Kernel, Limits, Meter, Name, Sizes, ThreadNumber,
     TicketNumber,
 };
-use lot_machine::{CurrencyRef, TargetRef, ThreadRef};
+use lot_kernel_tests::OneOfEach;
+use lot_machine::{CurrencyRef, TargetRef, ThreadRef, Verb, command_of};
+use lot_simulation::BodyWord;
 use std::alloc::Global;
 use std::process::Abort;
 
@@ -72,53 +74,47 @@ fn target_ref(rt: &impl Abort, alloc: Global, numbers: &mut ParkMiller) -> Targe
     }
 }
 
-/// Another amount for a ticket, sometimes the largest, or one that no ticket can have.
-fn next_setting(numbers: &mut ParkMiller, ticket: u64) -> Command {
-    let amount = match numbers.next() % 16 {
+/// An amount for a ticket, sometimes the largest, or one that no ticket can have.
+fn next_amount(numbers: &mut ParkMiller) -> u64 {
+    match numbers.next() % 64 {
         0 => 0,
         1 => 4294967296,
         2 => 4294967295,
         _ => u64::from(numbers.next() % 1000) + 1,
-    };
-    Command::SetTicket { ticket, amount }
+    }
 }
 
-fn next_command(rt: &impl Abort, alloc: Global, numbers: &mut ParkMiller) -> Command {
-    let amount = u64::from(numbers.next() % 1000) + 1;
-    let ticket = u64::from(numbers.next() % 8000);
-    match numbers.next() % 12 {
-        0 => Command::MakeTicket {
-            amount,
-            currency: currency_ref(rt, alloc, numbers),
-        },
-        1 => Command::RemoveTicket { ticket },
-        2 => Command::MakeCurrency {
-            name: currency_name(rt, alloc, numbers),
-        },
-        3 => Command::RemoveCurrency {
-            currency: currency_ref(rt, alloc, numbers),
-        },
-        4 | 5 => Command::Fund {
-            ticket,
-            target: target_ref(rt, alloc, numbers),
-        },
-        6 => Command::Unfund { ticket },
-        7 => Command::MakeThread {
-            name: thread_name(rt, alloc, numbers),
-            script: 1,
-        },
-        8 => Command::MakeFunded {
-            amount,
-            currency: currency_ref(rt, alloc, numbers),
-            name: thread_name(rt, alloc, numbers),
-            script: 1,
-        },
-        9 => next_setting(numbers, ticket),
-        10 => Command::RemoveThread {
-            thread: thread_ref(rt, alloc, numbers),
-        },
-        _ => Command::List(Kind::Threads),
+/// The name of a new currency or thread.
+fn new_name(rt: &impl Abort, alloc: Global, verb: Verb, numbers: &mut ParkMiller) -> Name {
+    if verb == Verb::MakeCurrency {
+        return currency_name(rt, alloc, numbers);
     }
+    thread_name(rt, alloc, numbers)
+}
+
+/// A command of this verb.
+fn command_with(rt: &impl Abort, alloc: Global, verb: Verb, numbers: &mut ParkMiller) -> Command {
+    let mut arguments = OneOfEach {
+        amount: next_amount(numbers),
+        ticket: u64::from(numbers.next() % 8000),
+        currency: currency_ref(rt, alloc, numbers),
+        target: target_ref(rt, alloc, numbers),
+        thread: thread_ref(rt, alloc, numbers),
+        name: new_name(rt, alloc, verb, numbers),
+        script: 1,
+    };
+    command_of(verb, &mut arguments).expect(rt, "each is given")
+}
+
+/// A command that an input may have, more often a fund than any other.
+fn next_command(rt: &impl Abort, alloc: Global, numbers: &mut ParkMiller) -> Command {
+    let words = BodyWord::table();
+    let place = numbers.next() as usize % words.len().max(1);
+    let verb = match words.get(place) {
+        Some((_, BodyWord::Command(verb), _)) => *verb,
+        _ => Verb::Fund,
+    };
+    command_with(rt, alloc, verb, numbers)
 }
 
 fn next_action(numbers: &mut ParkMiller) -> Action {

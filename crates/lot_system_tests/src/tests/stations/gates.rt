@@ -19,14 +19,8 @@ use std::test::*;
 use std::thread::Threads;
 
 /// Three processors with two turns each, and one thread.
-const THREE_PROCESSORS: &str = "lottery 1
-processors 3
-turns 2
-script spin
-compute 150
-endscript
-fundx 10 base a spin
-";
+const THREE_PROCESSORS: &str =
+    "lottery 1\nprocessors 3\nturns 2\nscript spin\ncompute 150\nendscript\nfundx 10 base a spin\n";
 
 fn first_processor(history: &[u8]) -> Option<u8> {
     history.iter().copied().find(|actor| *actor != 0)

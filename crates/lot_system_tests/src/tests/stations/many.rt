@@ -9,14 +9,8 @@ use std::test::*;
 use std::thread;
 
 /// 64 processors with one turn each, and one thread.
-const MANY_PROCESSORS: &str = "lottery 1
-processors 64
-turns 1
-script spin
-compute 150
-endscript
-fundx 10 base a spin
-";
+const MANY_PROCESSORS: &str =
+    "lottery 1\nprocessors 64\nturns 1\nscript spin\ncompute 150\nendscript\nfundx 10 base a spin\n";
 
 /// Holds each processor's worker until those of all 64 have come, or it has checked often enough.
 #[derive(Drop)]

@@ -21,16 +21,9 @@ use std::thread;
 use std::thread::Threads;
 
 /// One processor with three turns, and a thread that the second command kills.
-const KILLED: &str = "lottery 3
-for 1000
-processors 1
-turns 3
-script spin
-compute 150
-endscript
-fundx 10 base a spin
-kill a
-";
+const KILLED: &str =
+    "lottery 3\nfor 1000\nprocessors 1\nturns 3\nscript spin\ncompute 150\nendscript\nfundx 10 base a spin\n\
+    kill a\n";
 
 /// Holds a processor's worker before its second turn, while the thread of its first draw runs, until the thread has
 /// been killed.

@@ -16,14 +16,8 @@ use std::sync::ledger::Ledger;
 use std::test::*;
 
 /// A thread that locks and then computes.
-const LOCKER: &str = "lottery 1
-mutex m
-script s
-lock m
-compute 5
-endscript
-fundx 1 base a s
-";
+const LOCKER: &str =
+    "lottery 1\nmutex m\nscript s\nlock m\ncompute 5\nendscript\nfundx 1 base a s\n";
 
 const LOCKED: Reply = Reply::Trapped {
     thread: 1,

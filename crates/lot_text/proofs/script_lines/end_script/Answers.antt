@@ -1,16 +1,8 @@
-use Rattle.lot_text.proofs.Lemmas.{Gives-memory, Gives-refusal, none-refused, refl, script_line, within_script}
-use Rattle.lot_simulation.specs.declared.input.ScriptWord.TheVariants as word
+use Rattle.lot_text.proofs.Lemmas.{Gives-memory}
 use Rattle.lot_text.proofs.script_lines.end_script.Goals as goal
 
 pub invariant_of-reading : goal.invariant_of-reading
 invariant_of-reading c = rw c.in_err-push.ensures.items c.reading.invariant
 
 pub returns-in_err-push : goal.returns-in_err-push
-returns-in_err-push c = Gives-memory _ c.from_residual-in_err-push.result _ c.from_residual-in_err-push.ensures
-
-pub returns-in_err-none : goal.returns-in_err-none
-returns-in_err-none c =
-    let other =
-    none-refused (script_line (within_script c.args.reading.now c.args.script) c.args.script word.EndScript) c.args.tokens c.in_err-none.field-0.0
-    (λ first others. refl) c.in_err-none.ensures in
-    Gives-refusal _ c.from_residual.result c.in_err-none.field-0.0 _ c.from_residual.ensures other
+returns-in_err-push c = Gives-memory _ c.from_residual.result _ c.from_residual.ensures

@@ -1,9 +1,8 @@
-use Rattle.lot_text.proofs.Lemmas.{Gives-refusal, refl}
+use Rattle.lot_text.proofs.ScriptLemmas.{trap-line}
 use Rattle.lot_text.proofs.script_lines.trap.Goals as goal
 
-pub returns-in_err-number : goal.returns-in_err-number
-returns-in_err-number c =
-    Gives-refusal _ c.from_residual.result c.in_err-number.field-0.0 _ c.from_residual.ensures (rw (← c.in_err-number.ensures.read) refl)
+pub add_line-requires-clause-number : goal.add_line-requires-clause-number
+add_line-requires-clause-number c = rw c.with.ensures (trap-line c.args.word c.args.number c.requires.number)
 
 pub returns : goal.returns
-returns c = rw (← c.in_ok-number.ensures.read, ← c.with.ensures) c.add_line.ensures
+returns c = rw (← c.with.ensures) c.add_line.ensures

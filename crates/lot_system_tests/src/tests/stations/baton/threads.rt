@@ -16,25 +16,10 @@ use std::thread;
 use std::thread::Threads;
 
 /// Eight processors and six threads that share a mutex.
-const BUSY: &str = "lottery 1
-processors 8
-mutex m
-script busy
-loop 65535
-compute 30
-yield
-lock m
-compute 5
-unlock m
-end
-endscript
-fundx 10 base a busy
-fundx 20 base b busy
-fundx 30 base c busy
-fundx 40 base d busy
-fundx 50 base e busy
-fundx 60 base f busy
-";
+const BUSY: &str = "lottery 1\nprocessors 8\nmutex m\n\
+    script busy\nloop 65535\ncompute 30\nyield\nlock m\ncompute 5\nunlock m\nend\nendscript\n\
+    fundx 10 base a busy\nfundx 20 base b busy\nfundx 30 base c busy\nfundx 40 base d busy\nfundx 50 base e busy\n\
+    fundx 60 base f busy\n";
 
 /// The most turns that an actor makes.
 const TURNS: usize = 1000;
