@@ -3,11 +3,13 @@
 // It prints a line for each test, and ends with status 1 at the first thing that is not as it should be.
 
 #include "lot.h"
+#include "lot.hpp"
 
 #include <cstdio>
 #include <cstdlib>
 #include <cstring>
 #include <stdexcept>
+#include <type_traits>
 #include <utility>
 
 #define CHECK(holds) check((holds), #holds, __LINE__)
@@ -129,6 +131,66 @@ static void draws_and_traps() {
     std::puts("ok: draws and traps");
 }
 
+// Whether lot.hpp has a function of this name for arguments of these types.
+#define TAKES(function) \
+    struct function { \
+        template <typename... Given> \
+        static auto with(int) -> decltype(lot::function(std::declval<Given>()...), std::true_type()); \
+        template <typename...> static std::false_type with(...); \
+    }
+
+namespace takes {
+TAKES(fund);
+TAKES(lock);
+TAKES(preempt);
+TAKES(set_ticket);
+TAKES(wake);
+} // namespace takes
+
+#define COMPILES(function, ...) decltype(takes::function::with<__VA_ARGS__>(0))::value
+
+static_assert(COMPILES(fund, lot::Ticket, lot::Thread) && COMPILES(fund, lot::Ticket, lot::Currency), "as in lot.hpp");
+static_assert(COMPILES(fund, lot::Ticket, lot_name) && COMPILES(wake, lot::Thread), "as in lot.hpp");
+static_assert(COMPILES(lock, lot::Processor, int, lot::Mutex), "as in lot.hpp");
+static_assert(COMPILES(preempt, lot::Processor, int) && COMPILES(set_ticket, lot::Ticket, int), "as in lot.hpp");
+static_assert(!COMPILES(fund, lot::Thread, lot::Ticket) && !COMPILES(fund, lot::Ticket, lot::Ticket), "swapped");
+static_assert(!COMPILES(fund, int, int) && !COMPILES(fund, lot::Ticket, int), "plain numbers");
+static_assert(!COMPILES(lock, lot::Mutex, int, lot::Processor), "swapped");
+static_assert(!COMPILES(lock, lot::Processor, int, lot::Port), "a port for a mutex");
+static_assert(!COMPILES(preempt, int, lot::Processor) && !COMPILES(set_ticket, int, lot::Ticket), "swapped");
+static_assert(!COMPILES(wake, int) && !COMPILES(wake, lot::Processor), "no thread");
+
+static bool is_same(const lot_event &one, const lot_event &other) {
+    return std::memcmp(&one, &other, sizeof one) == 0;
+}
+
+// The events of lot.hpp are those of lot.h, and each number goes where it belongs.
+static void typed_numbers() {
+    const lot::Processor processor(1);
+    const lot::Ticket ticket(2);
+    const lot::Thread thread(3);
+    const lot::Currency currency(4);
+    const lot_name name = lot_name_of("a");
+    CHECK(is_same(lot::fund(ticket, thread), lot_fund_thread(2, 3)));
+    CHECK(is_same(lot::fund(ticket, currency), lot_fund_currency(2, 4)));
+    CHECK(is_same(lot::fund(ticket, name), lot_fund(2, name)));
+    CHECK(is_same(lot::call(processor, 5, lot::Port(6), 7), lot_call(1, 5, 6, 7)));
+    CHECK(is_same(lot::unlock(processor, 5, lot::Mutex(8), lot_wide_of(9)), lot_unlock(1, 5, 8, lot_wide_of(9))));
+    CHECK(is_same(lot::make_funded(10, lot::base, name, 1), lot_make_funded_in(10, 0, name, 1)));
+    CHECK(is_same(lot::reply_with(processor, 5, 7), lot_reply_with(1, 5, 7)));
+    CHECK(is_same(lot::kill(thread), lot_kill_numbered(3)) && is_same(lot::kill(name), lot_kill(name)));
+    CHECK(lot::Thread(3) == thread && lot::Thread(4) != thread);
+
+    Kernel kernel(lot_sizes_small());
+    const lot_reply made = kernel.event(lot::make_funded(10, lot::base, lot_no_name(), 1));
+    CHECK(lot::currency_of(kernel.event(lot::make_currency(name))) == lot::Currency(1));
+    CHECK(lot::thread_of(kernel.event(lot::draw(processor, lot_wide_of(9)))) == lot::thread_of(made));
+    CHECK(kernel.event(lot::kill(lot::thread_of(made))).kind == LOT_REPLY_DONE);
+    CHECK(kernel.event(lot::unfund(lot::ticket_of(made))).kind == LOT_REPLY_DONE);
+    CHECK(kernel.event(lot::remove_thread(lot::thread_of(made))).kind == LOT_REPLY_DONE);
+    std::puts("ok: typed numbers");
+}
+
 // A thread that runs is killed, and another one is drawn in its place.
 static void kills() {
     Kernel kernel = two_threads();
@@ -203,6 +265,7 @@ static void ownership() {
 
 int main() {
     draws_and_traps();
+    typed_numbers();
     kills();
     names();
     refused_events();

@@ -34,7 +34,7 @@ TAKEN = {
     "goes_on": ("bool", "reply.goes_on"),
 }
 # A field of an event in the archive's form, where it isn't the same.
-GIVEN = {"number": "ffi::Wide::of({})", "name": "{}.raw()", "name?": "Name::raw_of({})"}
+GIVEN = {"number": "ffi::Wide::of({})", "name": "{}.raw()", "name?": "Name::raw_of({})", "ticket": "u64::from({})"}
 
 
 def numbers(sort, rows):
@@ -151,7 +151,18 @@ impl {name} {{
 """
 
 
-def function(row):
+def function(row, about, parameters, body):
+    """A function of `Event`. `yield` is a word of Rust."""
+    return f"""
+    /// {about}
+    #[must_use]
+    pub const fn {"yield_" if row.name == "Yield" else row.lower}({", ".join(parameters)}) -> Event {{
+        {body}
+    }}
+"""
+
+
+def command(row):
     """The function of `Event` that makes a command."""
     parameters, items = [], []
     for (it, its), mine in zip(fields_of(row.named), row.parameters):
@@ -163,13 +174,17 @@ def function(row):
         items.append(item)
         parameters.append(f"{mine.name}: {of}")
     shown = f"[`Command::{row.named.name}`]"
-    return f"""
-    /// {f"{shown}." if row.named == row else doc_of(row, lambda _: shown)}
-    #[must_use]
-    pub const fn {row.lower}({", ".join(parameters)}) -> Event {{
-        Event::Command(Command::{row.named.name} {{ {", ".join(items)} }})
-    }}
-"""
+    about = f"{shown}." if row.named == row else doc_of(row, lambda _: shown)
+    return function(row, about, parameters, f"Event::Command(Command::{row.named.name} {{ {', '.join(items)} }})")
+
+
+def trap(row):
+    """The function of `Event` that makes a trap."""
+    parameters = [f"{it}: {its.field.rust}" for it, its in fields_of(row)]
+    fields = ", ".join(it for it, _ in fields_of(row))
+    action = f"Action::{row.name} {{ {fields} }}" if fields else f"Action::{row.name}"
+    return function(row, f"[`Event::Trap`] of [`Action::{row.name}`].", ["processor: u32", "ticks: u32", *parameters],
+                    f"Event::Trap {{ processor, ticks, action: {action} }}")
 
 
 def generated(rows):
@@ -179,16 +194,17 @@ def generated(rows):
     lists = "".join(arm(f"Command::List(Listing::{row.name[4:]})", f"EventKind::{row.name}.event()")
                     for row in events if row.is_list)
     listing = variant("List(Listing)", "Requests a listing.\n\nReply: [`Reply::List`]. It is never refused.", [])
-    functions = "".join(map(function, commands)).removeprefix("\n")
+    traps = [row for row in events if row.is_trap]
+    functions = "".join([*map(command, commands), *map(trap, traps)]).removeprefix("\n")
     return "\n".join([
         f"//! {MADE}\n",
         "use crate::numbers::numbered;",
         "use crate::{ffi, CurrencyRef, Event, Listing, Name, TargetRef, ThreadRef};",
-        "use std::fmt;\n",
+        "use core::fmt;\n",
         *(numbers(sort, rows[sort]) for sort in SORTS),
         answers("Reply", "kind", "reply_number", rows["reply_number"]),
         answers("Outcome", "outcome", "outcome_number", rows["outcome_number"]),
         requests("Command", [row for row in commands if row.named == row], listing, lists),
-        requests("Action", [row for row in events if row.is_trap]),
-        f"/// The commands as events.\nimpl Event {{\n{functions}}}\n",
+        requests("Action", traps),
+        f"/// The commands and the traps as events.\nimpl Event {{\n{functions}}}\n",
     ])

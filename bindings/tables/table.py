@@ -46,7 +46,7 @@ FIELDS = {
     "script": Field("script", "uint32_t", "u32", "int", "The number of its script, from 1."),
     "number": Field("number", "lot_wide", "u128", "int", "The drawn number of the lottery, any 128 bits."),
     "amount": Field("amount", "uint64_t", "u64", "int", "1 to 4294967295."),
-    "ticket": Field("ticket", "uint64_t", "u64", "int", "The ticket's number, from 1."),
+    "ticket": Field("ticket", "uint64_t", "u32", "int", "The ticket's number, from 1."),
     "currency": Field("currency", "lot_name", "CurrencyRef", "str", "The currency."),
     "target": Field("name", "lot_name", "TargetRef", "str", "The currency or the thread to fund."),
     "thread": Field("name", "lot_name", "ThreadRef", "str", "The thread."),

@@ -5,12 +5,12 @@
 //!
 //! A round is two events. THREADS is a multiple of 8. Half of the threads are alice's, who has two thirds of base.
 
-use lot::{Action, Event, Kernel, Name, ParkMiller, Refusal, Reply, Sizes};
+use lot::{Event, Kernel, Name, ParkMiller, Refusal, Reply, Sizes};
 use std::env;
 use std::error::Error;
 
 /// A user's currency, funded by the ticket with this number.
-fn make_user(kernel: &mut Kernel, ticket: u64, user: Name, amount: u64) -> Result<(), Refusal> {
+fn make_user(kernel: &mut Kernel, ticket: u32, user: Name, amount: u64) -> Result<(), Refusal> {
     kernel.event(&Event::make_currency(user)).ok()?;
     kernel.event(&Event::make_ticket(amount, Name::BASE)).ok()?;
     kernel.event(&Event::fund(ticket, user)).ok()?;
@@ -22,7 +22,7 @@ fn play_round(kernel: &mut Kernel, number: u128) -> Result<u32, Refusal> {
     let Reply::Winner { thread, .. } = kernel.event(&Event::draw(1, number)).ok()? else {
         return Ok(0);
     };
-    let end = if thread % 2 == 0 { Event::trap(1, 19, Action::Yield) } else { Event::expire(1) };
+    let end = if thread % 2 == 0 { Event::yield_(1, 19) } else { Event::expire(1) };
     kernel.event(&end).ok()?;
     Ok(thread)
 }

@@ -1,7 +1,7 @@
 //! Failures of calls.
 
 use crate::generated::CallStatus;
-use std::fmt;
+use core::fmt;
 
 /// The failure of a call. A failed call has changed nothing.
 ///
@@ -54,4 +54,4 @@ impl fmt::Display for Error {
     }
 }
 
-impl std::error::Error for Error {}
+impl core::error::Error for Error {}

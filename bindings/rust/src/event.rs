@@ -29,7 +29,7 @@ pub enum Listing {
 /// let fund = Event::fund_thread(1, 3);
 /// assert_eq!(fund, Event::Command(Command::Fund { ticket: 1, target: TargetRef::Thread(3) }));
 /// assert_eq!(Event::draw(1, 9), Event::Draw { processor: 1, number: 9 });
-/// let lock = Event::trap(1, 20, Action::Lock { mutex: 2 });
+/// let lock = Event::lock(1, 20, 2);
 /// assert_eq!(lock, Event::Trap { processor: 1, ticks: 20, action: Action::Lock { mutex: 2 } });
 /// # Ok::<(), lot::Error>(())
 /// ```
@@ -134,6 +134,23 @@ pub enum Event {
 /// # Ok::<(), Box<dyn std::error::Error>>(())
 /// ```
 ///
+/// A sleep and a wake:
+///
+/// ```
+/// use lot::{Event, Kernel, Name, Reply, Sizes, Status};
+///
+/// let mut kernel = Kernel::new(Sizes::default())?;
+/// let made = Event::make_funded(10, Name::BASE, Some("driver".parse()?), 1);
+/// kernel.run(&[made, Event::draw(1, 0), Event::sleep(1, 49)])?;
+/// assert_eq!(kernel.thread_row(1).map(|row| row.status), Some(Status::Asleep));
+/// assert_eq!(kernel.event(&Event::draw(1, 0)), Reply::Idle);
+/// kernel.event(&Event::wake(1)).ok()?;
+/// // It used half of its quantum of 100 ticks, so it weighs twice its value.
+/// let winner = Reply::Winner { thread: 1, number: 19, total: 20, delivered: None };
+/// assert_eq!(kernel.event(&Event::draw(1, 19)), winner);
+/// # Ok::<(), Box<dyn std::error::Error>>(())
+/// ```
+///
 /// A kill of a thread that runs:
 ///
 /// ```
@@ -172,27 +189,6 @@ impl Event {
     #[must_use]
     pub const fn trap(processor: u32, ticks: u32, action: Action) -> Event {
         Event::Trap { processor, ticks, action }
-    }
-
-    /// [`Event::Trap`] of [`Action::Sleep`].
-    ///
-    /// ```
-    /// use lot::{Event, Kernel, Name, Reply, Sizes, Status};
-    ///
-    /// let mut kernel = Kernel::new(Sizes::default())?;
-    /// let made = Event::make_funded(10, Name::BASE, Some("driver".parse()?), 1);
-    /// kernel.run(&[made, Event::draw(1, 0), Event::sleep(1, 49)])?;
-    /// assert_eq!(kernel.thread_row(1).map(|row| row.status), Some(Status::Asleep));
-    /// assert_eq!(kernel.event(&Event::draw(1, 0)), Reply::Idle);
-    /// kernel.event(&Event::wake(1)).ok()?;
-    /// // It used half of its quantum of 100 ticks, so it weighs twice its value.
-    /// let winner = Reply::Winner { thread: 1, number: 19, total: 20, delivered: None };
-    /// assert_eq!(kernel.event(&Event::draw(1, 19)), winner);
-    /// # Ok::<(), Box<dyn std::error::Error>>(())
-    /// ```
-    #[must_use]
-    pub const fn sleep(processor: u32, ticks: u32) -> Event {
-        Event::Trap { processor, ticks, action: Action::Sleep }
     }
 
     /// [`Event::Preempt`].

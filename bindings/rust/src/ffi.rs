@@ -3,9 +3,9 @@
 //! `lot_kernel_run` is left out: it goes on after a refused event, and `Kernel::run` doesn't.
 
 use crate::generated::CallStatus;
-use crate::{Error, Meter, Runner, Sizes};
-use std::ffi::c_void;
-use std::mem::{align_of, size_of};
+use crate::{Error, Meter, Runner};
+use core::ffi::c_void;
+use core::mem::{align_of, size_of};
 
 #[repr(C)]
 #[derive(Clone, Copy, Default)]
@@ -37,6 +37,23 @@ impl Wide {
 #[repr(C)]
 pub struct Handle {
     pub at: *mut c_void,
+}
+
+#[repr(C)]
+#[derive(Clone, Copy, Default)]
+pub struct Sizes {
+    pub tickets: u32,
+    pub currencies: u32,
+    pub threads: u32,
+    pub ports: u32,
+    pub mutexes: u32,
+    pub processors: u32,
+    pub scripts: u32,
+    pub quantum: u32,
+    pub unit: u32,
+    pub reuse: u32,
+    pub plain_names: u32,
+    pub queued_lend: u32,
 }
 
 #[repr(C)]

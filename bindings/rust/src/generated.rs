@@ -2,7 +2,7 @@
 
 use crate::numbers::numbered;
 use crate::{ffi, CurrencyRef, Event, Listing, Name, TargetRef, ThreadRef};
-use std::fmt;
+use core::fmt;
 
 numbered! {
     /// The statuses of calls.
@@ -438,7 +438,7 @@ pub enum Command {
     /// Reply: [`Reply::Done`]. Refusals: `NoTicket`, `Funding`.
     RemoveTicket {
         /// The ticket's number, from 1.
-        ticket: u64,
+        ticket: u32,
     },
     /// Makes a currency, with a name that neither a currency nor a thread has, a dead one included.
     ///
@@ -459,7 +459,7 @@ pub enum Command {
     /// Reply: [`Reply::Done`]. Refusals: `NoTicket`, `NoTarget`, `BaseFixed`, `DeadThread`, `Funding`, `Cycle`.
     Fund {
         /// The ticket's number, from 1.
-        ticket: u64,
+        ticket: u32,
         /// The currency or the thread to fund.
         target: TargetRef,
     },
@@ -468,7 +468,7 @@ pub enum Command {
     /// Reply: [`Reply::Done`]. Refusals: `NoTicket`, `NotFunding`.
     Unfund {
         /// The ticket's number, from 1.
-        ticket: u64,
+        ticket: u32,
     },
     /// Makes a thread, with a name or without. It is ready, and nothing funds it yet. Its script, 1 to `scripts`, is a
     /// number that the kernel keeps for its caller.
@@ -500,7 +500,7 @@ pub enum Command {
     /// Reply: [`Reply::Done`]. Refusals: `BadAmount`, `NoTicket`.
     SetTicket {
         /// The ticket's number, from 1.
-        ticket: u64,
+        ticket: u32,
         /// 1 to 4294967295.
         amount: u64,
     },
@@ -533,15 +533,18 @@ impl Command {
             Command::MakeTicket { amount, currency } => {
                 ffi::Event { amount, ..currency.event(EventKind::MakeTicket, EventKind::MakeTicketIn) }
             }
-            Command::RemoveTicket { ticket } => ffi::Event { ticket, ..EventKind::RemoveTicket.event() },
+            Command::RemoveTicket { ticket } => {
+                ffi::Event { ticket: u64::from(ticket), ..EventKind::RemoveTicket.event() }
+            }
             Command::MakeCurrency { name } => ffi::Event { name: name.raw(), ..EventKind::MakeCurrency.event() },
             Command::RemoveCurrency { currency } => {
                 currency.event(EventKind::RemoveCurrency, EventKind::RemoveCurrencyNumbered)
             }
-            Command::Fund { ticket, target } => {
-                ffi::Event { ticket, ..target.event(EventKind::Fund, EventKind::FundCurrency, EventKind::FundThread) }
-            }
-            Command::Unfund { ticket } => ffi::Event { ticket, ..EventKind::Unfund.event() },
+            Command::Fund { ticket, target } => ffi::Event {
+                ticket: u64::from(ticket),
+                ..target.event(EventKind::Fund, EventKind::FundCurrency, EventKind::FundThread)
+            },
+            Command::Unfund { ticket } => ffi::Event { ticket: u64::from(ticket), ..EventKind::Unfund.event() },
             Command::MakeThread { name, script } => {
                 ffi::Event { script, name: Name::raw_of(name), ..EventKind::MakeThread.event() }
             }
@@ -551,7 +554,9 @@ impl Command {
                 name: Name::raw_of(name),
                 ..currency.event(EventKind::MakeFunded, EventKind::MakeFundedIn)
             },
-            Command::SetTicket { ticket, amount } => ffi::Event { amount, ticket, ..EventKind::SetTicket.event() },
+            Command::SetTicket { ticket, amount } => {
+                ffi::Event { amount, ticket: u64::from(ticket), ..EventKind::SetTicket.event() }
+            }
             Command::RemoveThread { thread } => thread.event(EventKind::RemoveThread, EventKind::RemoveThreadNumbered),
             Command::Kill { thread } => thread.event(EventKind::Kill, EventKind::KillNumbered),
         }
@@ -649,7 +654,7 @@ impl Action {
     }
 }
 
-/// The commands as events.
+/// The commands and the traps as events.
 impl Event {
     /// [`Command::MakeTicket`].
     #[must_use]
@@ -659,7 +664,7 @@ impl Event {
 
     /// [`Command::RemoveTicket`].
     #[must_use]
-    pub const fn remove_ticket(ticket: u64) -> Event {
+    pub const fn remove_ticket(ticket: u32) -> Event {
         Event::Command(Command::RemoveTicket { ticket })
     }
 
@@ -677,13 +682,13 @@ impl Event {
 
     /// [`Command::Fund`].
     #[must_use]
-    pub const fn fund(ticket: u64, target: Name) -> Event {
+    pub const fn fund(ticket: u32, target: Name) -> Event {
         Event::Command(Command::Fund { ticket, target: TargetRef::Named(target) })
     }
 
     /// [`Command::Unfund`].
     #[must_use]
-    pub const fn unfund(ticket: u64) -> Event {
+    pub const fn unfund(ticket: u32) -> Event {
         Event::Command(Command::Unfund { ticket })
     }
 
@@ -701,7 +706,7 @@ impl Event {
 
     /// [`Command::SetTicket`].
     #[must_use]
-    pub const fn set_ticket(ticket: u64, amount: u64) -> Event {
+    pub const fn set_ticket(ticket: u32, amount: u64) -> Event {
         Event::Command(Command::SetTicket { ticket, amount })
     }
 
@@ -725,13 +730,13 @@ impl Event {
 
     /// The same as [`Command::Fund`], given the number of the currency.
     #[must_use]
-    pub const fn fund_currency(ticket: u64, currency: u32) -> Event {
+    pub const fn fund_currency(ticket: u32, currency: u32) -> Event {
         Event::Command(Command::Fund { ticket, target: TargetRef::Currency(currency) })
     }
 
     /// The same as [`Command::Fund`], given the number of the thread.
     #[must_use]
-    pub const fn fund_thread(ticket: u64, thread: u32) -> Event {
+    pub const fn fund_thread(ticket: u32, thread: u32) -> Event {
         Event::Command(Command::Fund { ticket, target: TargetRef::Thread(thread) })
     }
 
@@ -757,5 +762,59 @@ impl Event {
     #[must_use]
     pub const fn kill_numbered(thread: u32) -> Event {
         Event::Command(Command::Kill { thread: ThreadRef::Numbered(thread) })
+    }
+
+    /// [`Event::Trap`] of [`Action::Yield`].
+    #[must_use]
+    pub const fn yield_(processor: u32, ticks: u32) -> Event {
+        Event::Trap { processor, ticks, action: Action::Yield }
+    }
+
+    /// [`Event::Trap`] of [`Action::Call`].
+    #[must_use]
+    pub const fn call(processor: u32, ticks: u32, port: u32, number: u32) -> Event {
+        Event::Trap { processor, ticks, action: Action::Call { port, number } }
+    }
+
+    /// [`Event::Trap`] of [`Action::Receive`].
+    #[must_use]
+    pub const fn receive(processor: u32, ticks: u32, port: u32) -> Event {
+        Event::Trap { processor, ticks, action: Action::Receive { port } }
+    }
+
+    /// [`Event::Trap`] of [`Action::Reply`].
+    #[must_use]
+    pub const fn reply(processor: u32, ticks: u32, number: u32) -> Event {
+        Event::Trap { processor, ticks, action: Action::Reply { number } }
+    }
+
+    /// [`Event::Trap`] of [`Action::Lock`].
+    #[must_use]
+    pub const fn lock(processor: u32, ticks: u32, mutex: u32) -> Event {
+        Event::Trap { processor, ticks, action: Action::Lock { mutex } }
+    }
+
+    /// [`Event::Trap`] of [`Action::Unlock`].
+    #[must_use]
+    pub const fn unlock(processor: u32, ticks: u32, mutex: u32, number: u128) -> Event {
+        Event::Trap { processor, ticks, action: Action::Unlock { mutex, number } }
+    }
+
+    /// [`Event::Trap`] of [`Action::Exit`].
+    #[must_use]
+    pub const fn exit(processor: u32, ticks: u32) -> Event {
+        Event::Trap { processor, ticks, action: Action::Exit }
+    }
+
+    /// [`Event::Trap`] of [`Action::Serve`].
+    #[must_use]
+    pub const fn serve(processor: u32, ticks: u32, port: u32, number: u32) -> Event {
+        Event::Trap { processor, ticks, action: Action::Serve { port, number } }
+    }
+
+    /// [`Event::Trap`] of [`Action::Sleep`].
+    #[must_use]
+    pub const fn sleep(processor: u32, ticks: u32) -> Event {
+        Event::Trap { processor, ticks, action: Action::Sleep }
     }
 }

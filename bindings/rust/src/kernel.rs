@@ -1,11 +1,12 @@
 //! The kernel.
 
 use crate::{ffi, CurrencyRow, Error, Event, EventRefusal, Reply, Settled, Sizes, Stopped, ThreadRow, TicketRow};
-use std::cell::UnsafeCell;
-use std::fmt;
-use std::iter::FusedIterator;
-use std::ptr::null_mut;
-use std::slice;
+use alloc::vec::Vec;
+use core::cell::UnsafeCell;
+use core::fmt;
+use core::iter::FusedIterator;
+use core::ptr::null_mut;
+use core::slice;
 
 /// A thread that runs on a processor.
 #[repr(C)]
@@ -29,8 +30,8 @@ pub struct Meter {
 
 /// A lottery-scheduled kernel. [`Kernel::new`] allocates all its memory, and dropping it frees that.
 ///
-/// It may move to another thread. Threads that share one need a lock around it, such as a [`Mutex`](std::sync::Mutex),
-/// since rows recompute stale values inside. Or they read it at once, after [`Kernel::settle`].
+/// It may move to another thread. Threads that share one need a lock around it, such as a `Mutex`, since rows recompute
+/// stale values inside. Or they read it at once, after [`Kernel::settle`].
 ///
 /// ```compile_fail,E0277
 /// fn needs_sync<T: Sync>() {}
@@ -76,7 +77,7 @@ impl Kernel {
     pub fn new(sizes: Sizes) -> Result<Kernel, Error> {
         let mut handle = ffi::Handle { at: null_mut() };
         // SAFETY: both are whole and apart, and the handle holds no kernel.
-        ffi::done(unsafe { ffi::lot_kernel_new(&sizes, &mut handle) })?;
+        ffi::done(unsafe { ffi::lot_kernel_new(&sizes.plain(), &mut handle) })?;
         Ok(Kernel { handle: UnsafeCell::new(handle) })
     }
 
@@ -96,7 +97,7 @@ impl Kernel {
     pub fn bytes(sizes: Sizes) -> Result<u64, Error> {
         let mut bytes = 0;
         // SAFETY: both are whole and apart.
-        ffi::done(unsafe { ffi::lot_kernel_bytes(&sizes, &mut bytes) })?;
+        ffi::done(unsafe { ffi::lot_kernel_bytes(&sizes.plain(), &mut bytes) })?;
         Ok(bytes)
     }
 
@@ -311,10 +312,10 @@ impl Kernel {
     /// The sizes with which the kernel was made.
     #[must_use]
     pub fn sizes(&self) -> Sizes {
-        let mut sizes = Sizes::SMALL;
+        let mut sizes = ffi::Sizes::default();
         // SAFETY: for the handle see `here`; the sizes are whole and apart from it.
         ffi::must_be_done(unsafe { ffi::lot_kernel_limits(self.here(), &mut sizes) });
-        sizes
+        Sizes::of(&sizes)
     }
 
     /// The kernel's counts of its own work. Rows count too, where they recompute stale values.

@@ -1,6 +1,9 @@
 #![doc = include_str!("../README.md")]
+#![no_std]
 #![warn(missing_docs)]
 #![deny(unsafe_op_in_unsafe_fn)]
+
+extern crate alloc;
 
 mod error;
 mod event;

@@ -3,8 +3,8 @@
 use crate::ffi::{self, Wide};
 use crate::generated::CallStatus;
 use crate::Error;
-use std::iter::FusedIterator;
-use std::num::NonZeroU32;
+use core::iter::FusedIterator;
+use core::num::NonZeroU32;
 
 /// The weight of a thread with this value in a draw. The compensation is the ticks of its quantum that it had used when
 /// it yielded, blocked or went to sleep before the quantum's end, or the sum of the quantum and the ticks by which it

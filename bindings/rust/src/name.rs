@@ -1,10 +1,10 @@
 //! Names of currencies and threads.
 
 use crate::{ffi, Error};
-use std::borrow::Borrow;
-use std::fmt;
-use std::hash::{Hash, Hasher};
-use std::str::FromStr;
+use core::borrow::Borrow;
+use core::fmt;
+use core::hash::{Hash, Hasher};
+use core::str::FromStr;
 
 /// A name of a currency or a thread: a letter a to z, followed by letters a to z, digits, `_` or `-`, 1 to 16 bytes in
 /// all. [`Name::plain`] also makes others, which only kernels with [`Sizes::plain_names`](crate::Sizes::plain_names)
@@ -98,7 +98,7 @@ impl Name {
 }
 
 fn text_of(bytes: &[u8]) -> &str {
-    std::str::from_utf8(bytes).expect("a name is ASCII")
+    core::str::from_utf8(bytes).expect("a name is ASCII")
 }
 
 impl TryFrom<&[u8]> for Name {

@@ -1,8 +1,9 @@
 //! Refusals of events and traps.
 
 use crate::{EventRefusal, Reply, TrapRefusal};
-use std::error::Error;
-use std::fmt;
+use alloc::vec::Vec;
+use core::error::Error;
+use core::fmt;
 
 /// The reason why the kernel refuses an event or its trap.
 ///

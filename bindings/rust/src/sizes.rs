@@ -1,5 +1,7 @@
 //! The sizes of a kernel.
 
+use crate::ffi;
+
 /// The sizes of a kernel. It never grows.
 ///
 /// The default is enough for a first try: 64 tickets, 16 currencies and 16 threads, 2 ports, 2 mutexes, 2 processors,
@@ -12,7 +14,6 @@
 /// let sizes = Sizes { threads: 500, tickets: 1000, ..Sizes::default() };
 /// assert_eq!((sizes.processors, sizes.quantum), (2, 100));
 /// ```
-#[repr(C)]
 #[derive(Clone, Copy, Debug, PartialEq, Eq, Hash)]
 pub struct Sizes {
     /// The largest number of tickets ever made, 1 to 65535. Removed ones count, unless `reuse` is set.
@@ -37,47 +38,45 @@ pub struct Sizes {
     /// currency is worth 0 if the currency's value times the ticket's amount is below the currency's active amount, and
     /// a thread that is worth 0 wins no draw. So give tickets of base amounts of a million: it costs nothing.
     pub unit: u32,
-    /// 0 if each number is given once. Otherwise the numbers of removed tickets, currencies and threads are given
-    /// again, the last removed first, and the first three sizes count what exists at once. The kernel keeps it as 0 or
-    /// 1.
+    /// Whether the numbers of removed tickets, currencies and threads are given again, the last removed first. Then the
+    /// first three sizes count what exists at once.
     ///
     /// A number that was kept of what is removed then comes to mean another thing, so forget it with the removal.
     ///
     /// ```
     /// use lot::{Event, Kernel, Name, Reply, Sizes};
     ///
-    /// let mut kernel = Kernel::new(Sizes { tickets: 1, reuse: 1, ..Sizes::default() })?;
+    /// let mut kernel = Kernel::new(Sizes { tickets: 1, reuse: true, ..Sizes::default() })?;
     /// for amount in 1..100_000 {
     ///     assert_eq!(kernel.event(&Event::make_ticket(amount, Name::BASE)), Reply::Ticket(1));
     ///     kernel.event(&Event::remove_ticket(1)).ok()?;
     /// }
     /// # Ok::<(), Box<dyn std::error::Error>>(())
     /// ```
-    pub reuse: u32,
-    /// 0 if a name is a letter a to z, followed by letters a to z, digits, `_` or `-`. Otherwise it may have any
-    /// printable ASCII but the space, as [`Name::plain`](crate::Name::plain) does. The kernel keeps it as 0 or 1.
+    pub reuse: bool,
+    /// Whether a name may have any printable ASCII but the space, as [`Name::plain`](crate::Name::plain) does.
+    /// Otherwise it is a letter a to z, followed by letters a to z, digits, `_` or `-`.
     ///
     /// ```
     /// use lot::{Event, EventRefusal, Kernel, Name, Reply, Sizes};
     ///
     /// let make = Event::make_currency(Name::plain("Team/1")?);
-    /// let mut plain = Kernel::new(Sizes { plain_names: 1, ..Sizes::default() })?;
+    /// let mut plain = Kernel::new(Sizes { plain_names: true, ..Sizes::default() })?;
     /// assert_eq!(plain.event(&make), Reply::Currency(1));
     /// let mut other = Kernel::new(Sizes::default())?;
     /// assert_eq!(other.event(&make), Reply::Refused(EventRefusal::BadName));
     /// # Ok::<(), lot::Error>(())
     /// ```
-    pub plain_names: u32,
-    /// 0 if a thread whose call is queued lends to nobody. Otherwise it lends to the port's server: the thread that
-    /// took the last call there. So a server that works for a poor client has the funding of the rich ones whose calls
-    /// wait. A port has no server before a thread takes a call there, and after its server has exited or was killed.
-    /// Nothing is lent in a circle: a queued call, or a lock, that would make one takes the port's server away. The
-    /// kernel keeps it as 0 or 1.
+    pub plain_names: bool,
+    /// Whether a thread whose call is queued lends to the port's server: the thread that took the last call there. So a
+    /// server that works for a poor client has the funding of the rich ones whose calls wait. A port has no server
+    /// before a thread takes a call there, and after its server has exited or was killed. Nothing is lent in a circle:
+    /// a queued call, or a lock, that would make one takes the port's server away.
     ///
     /// ```
     /// use lot::{Action, Event, Kernel, Name, Sizes};
     ///
-    /// let mut kernel = Kernel::new(Sizes { queued_lend: 1, ..Sizes::default() })?;
+    /// let mut kernel = Kernel::new(Sizes { queued_lend: true, ..Sizes::default() })?;
     /// for (amount, action) in [
     ///     (10, Action::Receive { port: 1 }),
     ///     (20, Action::Call { port: 1, number: 5 }),
@@ -91,7 +90,7 @@ pub struct Sizes {
     /// assert_eq!(kernel.thread_row(1).map(|row| row.value), Some(60));
     /// # Ok::<(), Box<dyn std::error::Error>>(())
     /// ```
-    pub queued_lend: u32,
+    pub queued_lend: bool,
 }
 
 impl Sizes {
@@ -106,10 +105,45 @@ impl Sizes {
         scripts: 1,
         quantum: 100,
         unit: 1,
-        reuse: 0,
-        plain_names: 0,
-        queued_lend: 0,
+        reuse: false,
+        plain_names: false,
+        queued_lend: false,
     };
+
+    /// The sizes in the archive's form.
+    pub(crate) fn plain(&self) -> ffi::Sizes {
+        ffi::Sizes {
+            tickets: self.tickets,
+            currencies: self.currencies,
+            threads: self.threads,
+            ports: self.ports,
+            mutexes: self.mutexes,
+            processors: self.processors,
+            scripts: self.scripts,
+            quantum: self.quantum,
+            unit: self.unit,
+            reuse: u32::from(self.reuse),
+            plain_names: u32::from(self.plain_names),
+            queued_lend: u32::from(self.queued_lend),
+        }
+    }
+
+    pub(crate) fn of(sizes: &ffi::Sizes) -> Sizes {
+        Sizes {
+            tickets: sizes.tickets,
+            currencies: sizes.currencies,
+            threads: sizes.threads,
+            ports: sizes.ports,
+            mutexes: sizes.mutexes,
+            processors: sizes.processors,
+            scripts: sizes.scripts,
+            quantum: sizes.quantum,
+            unit: sizes.unit,
+            reuse: sizes.reuse != 0,
+            plain_names: sizes.plain_names != 0,
+            queued_lend: sizes.queued_lend != 0,
+        }
+    }
 }
 
 impl Default for Sizes {

@@ -102,7 +102,7 @@ fn a_trap_s_refusal_is_an_error() {
     let mut kernel = kernel_of(&[10]);
     kernel.event(&Event::draw(1, 0)).ok().expect("thread 1");
     // 99 ticks of work and the trap's own are the whole quantum.
-    let reply = kernel.event(&Event::trap(1, 99, Action::Unlock { mutex: 1, number: 0 }));
+    let reply = kernel.event(&Event::unlock(1, 99, 1, 0));
     let outcome = Outcome::Refused(TrapRefusal::NotOwner);
     assert_eq!(reply, Reply::Trapped { thread: 1, ticks: 100, outcome, ends: true, goes_on: false });
     assert_eq!(reply.refusal(), Some(Refusal::Trap(TrapRefusal::NotOwner)));
@@ -115,7 +115,7 @@ fn a_reply_that_is_no_refusal_is_itself() {
     let mut kernel = kernel_of(&[10]);
     let winner = Reply::Winner { thread: 1, number: 4, total: 10, delivered: None };
     assert_eq!(kernel.event(&Event::draw(1, 4)).ok(), Ok(winner));
-    let yielded = kernel.event(&Event::trap(1, 0, Action::Yield));
+    let yielded = kernel.event(&Event::yield_(1, 0));
     assert_eq!((yielded.refusal(), yielded.ok()), (None, Ok(yielded)));
     assert_eq!(kernel_of(&[]).event(&Event::draw(1, 4)).ok(), Ok(Reply::Idle));
 }
@@ -140,7 +140,7 @@ fn a_run_says_how_many_were_done() {
 #[test]
 fn a_run_stops_at_a_refused_trap() {
     let mut kernel = kernel_of(&[10]);
-    let lock = Event::trap(1, 0, Action::Lock { mutex: 9 });
+    let lock = Event::lock(1, 0, 9);
     let stopped = kernel.run(&[Event::draw(1, 0), lock, Event::expire(1)]).expect_err("mutex 9 of 2");
     let outcome = Outcome::Refused(TrapRefusal::NoMutex);
     assert_eq!((stopped.done(), stopped.refusal), (1, Refusal::Trap(TrapRefusal::NoMutex)));
@@ -284,7 +284,7 @@ fn constructors_make_the_events() {
         Event::draw(1, 9),
         Event::make_funded(10, Name::BASE, Some(name("v")), 1),
         Event::draw(1, 9),
-        Event::trap(1, 0, Action::Exit),
+        Event::exit(1, 0),
         Event::unfund(3),
         Event::remove_thread(name("v")),
         Event::make_funded(10, Name::BASE, Some(name("v")), 1),
@@ -332,6 +332,41 @@ fn constructors_make_the_events() {
         Reply::Done,
     ];
     assert_eq!(kernel.run(&events).expect("no refusal"), wanted);
+}
+
+// Events, replies and rows have numbers of tickets of one type.
+#[test]
+fn a_thread_is_buried_with_its_ticket() {
+    let mut kernel = Kernel::new(Sizes::default()).expect("the default sizes");
+    let made = kernel.event(&Event::make_funded(10, Name::BASE, None, 1)).ok().expect("made");
+    let Reply::Funded { ticket, thread } = made else { unreachable!("a thread and its ticket are made") };
+    let burial = [
+        Event::kill_numbered(thread),
+        Event::unfund(ticket),
+        Event::remove_ticket(ticket),
+        Event::remove_thread_numbered(thread),
+    ];
+    assert_eq!(kernel.run(&burial), Ok(vec![Reply::Done; 4]));
+    assert_eq!((kernel.ticket_row(ticket), kernel.thread_row(thread)), (None, None));
+}
+
+#[test]
+fn each_trap_has_a_constructor() {
+    let traps = [
+        (Event::yield_(1, 2), Action::Yield),
+        (Event::call(1, 2, 3, 4), Action::Call { port: 3, number: 4 }),
+        (Event::receive(1, 2, 3), Action::Receive { port: 3 }),
+        (Event::reply(1, 2, 4), Action::Reply { number: 4 }),
+        (Event::serve(1, 2, 3, 4), Action::Serve { port: 3, number: 4 }),
+        (Event::lock(1, 2, 5), Action::Lock { mutex: 5 }),
+        (Event::unlock(1, 2, 5, 6), Action::Unlock { mutex: 5, number: 6 }),
+        (Event::exit(1, 2), Action::Exit),
+        (Event::sleep(1, 2), Action::Sleep),
+    ];
+    for (made, action) in traps {
+        assert_eq!(made, Event::trap(1, 2, action));
+        assert_eq!(made, Event::Trap { processor: 1, ticks: 2, action });
+    }
 }
 
 #[test]

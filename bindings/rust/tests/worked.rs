@@ -62,10 +62,7 @@ fn currency_graph() {
             command(&mut kernel, Command::MakeTicket { amount, currency: name(currency).into() }),
             Reply::Ticket(number)
         );
-        assert_eq!(
-            command(&mut kernel, Command::Fund { ticket: u64::from(number), target: name(target).into() }),
-            Reply::Done
-        );
+        assert_eq!(command(&mut kernel, Command::Fund { ticket: number, target: name(target).into() }), Reply::Done);
     }
     for (amount, currency, thread) in [(200, "task2", "thread2"), (300, "task2", "thread3"), (100, "task3", "thread4")]
     {
@@ -155,7 +152,7 @@ fn by_number() {
         (Event::remove_currency_numbered(0), Reply::Refused(EventRefusal::BaseFixed)),
         (Event::remove_currency_numbered(1), Reply::Refused(EventRefusal::InUse)),
         (Event::draw(1, 24), Reply::Winner { thread: 1, number: 24, total: 100, delivered: None }),
-        (Event::trap(1, 0, Action::Exit), trapped(1, 1, Outcome::Exited, false)),
+        (Event::exit(1, 0), trapped(1, 1, Outcome::Exited, false)),
         (Event::remove_thread_numbered(1), Reply::Refused(EventRefusal::InUse)),
         (Event::unfund(2), Reply::Done),
         (Event::remove_thread_numbered(1), Reply::Done),
@@ -177,7 +174,7 @@ fn by_number() {
 // With `reuse`, the next thread gets the number of the last one removed, and a dead thread keeps its number.
 #[test]
 fn given_again() {
-    let mut kernel = Kernel::new(Sizes { tickets: 2, threads: 2, reuse: 1, ..Sizes::SMALL }).expect("small");
+    let mut kernel = Kernel::new(Sizes { tickets: 2, threads: 2, reuse: true, ..Sizes::SMALL }).expect("small");
     fund_thread(&mut kernel, 10, "base", "a");
     fund_thread(&mut kernel, 5, "base", "b");
     let c = Event::make_thread(Some(name("c")), 1);
@@ -193,7 +190,7 @@ fn given_again() {
 // Threads without a name have numbers alone. With `reuse` they come and go, in room for two.
 #[test]
 fn no_names() {
-    let mut kernel = Kernel::new(Sizes { tickets: 2, threads: 2, reuse: 1, ..Sizes::SMALL }).expect("small");
+    let mut kernel = Kernel::new(Sizes { tickets: 2, threads: 2, reuse: true, ..Sizes::SMALL }).expect("small");
     assert_eq!(kernel.event(&Event::make_thread(None, 1)), Reply::Thread(1));
     assert_eq!(kernel.event(&Event::make_ticket_in(3, 0)), Reply::Ticket(1));
     assert_eq!(kernel.ticket_row(1).map(|row| (row.target, row.target_name)), Some((None, None)));
@@ -215,9 +212,9 @@ fn no_names() {
 // thread's 30 too.
 #[test]
 fn queued_lend() {
-    for (queued_lend, total) in [(7, 6000), (0, 3000)] {
+    for (queued_lend, total) in [(true, 6000), (false, 3000)] {
         let mut kernel = Kernel::new(Sizes { queued_lend, ..Sizes::SMALL }).expect("small");
-        assert_eq!(kernel.sizes().queued_lend, u32::from(queued_lend != 0));
+        assert_eq!(kernel.sizes().queued_lend, queued_lend);
         for (amount, thread) in [(10, "server"), (20, "c"), (30, "d")] {
             fund_thread(&mut kernel, amount, "base", thread);
         }
@@ -237,8 +234,8 @@ fn queued_lend() {
 fn plain_names() {
     let (job, team) = (Name::plain("Job#1").expect("plain"), Name::plain("~").expect("plain"));
     let make = Event::make_funded(4, team, Some(job), 1);
-    let mut plain = Kernel::new(Sizes { plain_names: 7, ..Sizes::SMALL }).expect("small");
-    assert_eq!(plain.sizes().plain_names, 1);
+    let mut plain = Kernel::new(Sizes { plain_names: true, ..Sizes::SMALL }).expect("small");
+    assert!(plain.sizes().plain_names);
     let run = [Event::make_currency(team), make, Event::make_funded(5, Name::BASE, None, 1), Event::kill(job)];
     assert!(plain.run(&run).is_ok());
     assert_eq!(plain.event(&Event::make_currency(job)), Reply::Refused(EventRefusal::NameTaken));
@@ -524,8 +521,7 @@ fn servings() {
     assert_eq!(kernel.event(&serves), Reply::Winner { thread: 1, number: 0, total: 3030, delivered: Some(5) });
     draw(&mut kernel, 0);
     trap(&mut kernel, 0, Action::Call { port: 1, number: 6 });
-    let mut serve =
-        |number| kernel.event(&Event::Trap { processor: 2, ticks: 0, action: Action::Serve { port: 1, number } });
+    let mut serve = |number| kernel.event(&Event::serve(2, 0, 1, number));
     let received = Outcome::RepliedThenReceived { to: 2, client: 3, number: 6 };
     assert_eq!(serve(8), Reply::Trapped { thread: 1, ticks: 1, outcome: received, ends: false, goes_on: true });
     let waits = Outcome::RepliedThenWaits(3);
@@ -542,7 +538,7 @@ fn refusals() {
         (1, 0, EventRefusal::BadAmount),
         (1, 1 << 32, EventRefusal::BadAmount),
         (1, 1, EventRefusal::NoTicket),
-        (1 << 32, 1, EventRefusal::NoTicket),
+        (u32::MAX, 1, EventRefusal::NoTicket),
     ] {
         assert_eq!(command(&mut kernel, Command::SetTicket { ticket, amount }), Reply::Refused(why));
     }

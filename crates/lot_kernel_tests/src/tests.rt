@@ -26,6 +26,8 @@ use std::process::Abort;
 enum Step<'a> {
     /// The line of a command, and its reply. A script is its number, and `#1` a thread's number.
     Gives(&'a str, Reply),
+    /// The line of a `fundx`, and the ticket and the thread that it makes.
+    Funds(&'a str, u32, u32),
     /// A draw on the processor with this number, its winner, and the number delivered to the winner.
     Wins(u32, u128, Winner, Option<u32>),
     /// A draw on the processor with this number that nobody wins.
@@ -35,7 +37,16 @@ enum Step<'a> {
     Traps(u32, Action, u32, Outcome),
     /// A trap after this many ticks of work.
     Works(u32, u32, Action, u32, Outcome),
+    /// A trap without work before it, as above, its thread, and its refusal.
+    Refuses(u32, Action, u32, TrapRefusal),
+    /// A receipt on a processor, the port, the thread, and the client and the number that it gets.
+    Receives(u32, u32, u32, (u32, u32)),
+    /// An unlock on a processor, the mutex and the drawn number, the thread, the next owner, and the lottery that it won,
+    /// if there was one.
+    Passes(u32, (u32, u128), u32, u32, Option<(u64, u64)>),
     Pauses(Pause, Reply),
+    /// An end of a thread's run, the thread, and its ticks since its last trap.
+    Expires(Pause, u32, u32),
     Ticket(TicketShown<'a>),
     Currency(CurrencyShown<'a>),
     Thread(ThreadShown<'a>),
@@ -195,21 +206,58 @@ fn event_of(pause: Pause) -> Event {
 fn event_of_step(rt: &impl Abort, step: Step<'_>) -> Option<(Event, Reply)> {
     match step {
         Step::Gives(line, reply) => Some((Event::Command(command(rt, line)), reply)),
+        Step::Funds(line, ticket, thread) => {
+            let reply = Reply::Funded { ticket, thread };
+            Some((Event::Command(command(rt, line)), reply))
+        }
         Step::Wins(processor, d, winner, delivered) => {
             Some((Event::Draw(processor, d), winning(winner, delivered)))
         }
         Step::Idles(processor, d) => Some((Event::Draw(processor, d), Reply::Idle)),
+        Step::Pauses(pause, reply) => Some((event_of(pause), reply)),
+        Step::Expires(pause, thread, ticks) => {
+            Some((event_of(pause), Reply::Expired { thread, ticks }))
+        }
+        _ => trap_of_step(step),
+    }
+}
+
+/// The trap of a step and its expected reply, if the step is a trap.
+fn trap_of_step(step: Step<'_>) -> Option<(Event, Reply)> {
+    match step {
         Step::Traps(processor, action, thread, outcome) => {
-            let event = Event::Trap(processor, 0, action);
-            Some((event, trapped(thread, outcome)))
+            Some(trap_after(processor, 0, action, thread, outcome))
         }
         Step::Works(processor, ran, action, thread, outcome) => {
-            let event = Event::Trap(processor, ran, action);
-            Some((event, trapped_after(thread, ran, outcome)))
+            Some(trap_after(processor, ran, action, thread, outcome))
         }
-        Step::Pauses(pause, reply) => Some((event_of(pause), reply)),
+        Step::Refuses(processor, action, thread, refusal) => {
+            let outcome = Outcome::Refused(refusal);
+            Some(trap_after(processor, 0, action, thread, outcome))
+        }
+        Step::Receives(processor, port, thread, (client, number)) => {
+            let outcome = Outcome::Received { client, number };
+            Some(trap_after(processor, 0, Action::Receive(port), thread, outcome))
+        }
+        Step::Passes(processor, (mutex, d), thread, to, draw) => {
+            let action = Action::Unlock(mutex, d);
+            let outcome = Outcome::Passed { to, draw };
+            Some(trap_after(processor, 0, action, thread, outcome))
+        }
         _ => None,
     }
+}
+
+/// A trap after this many ticks of work, and the reply to this thread, whose quantum it doesn't end.
+fn trap_after(
+    processor: u32,
+    ran: u32,
+    action: Action,
+    thread: u32,
+    outcome: Outcome,
+) -> (Event, Reply) {
+    let event = Event::Trap(processor, ran, action);
+    (event, trapped_after(thread, ran, outcome))
 }
 
 /// Takes a step.
@@ -230,13 +278,8 @@ fn check_shown(rt: &impl Abort, kernel: &mut Kernel, step: Step<'_>) {
         Step::NoTicket(number) => check_ticket(rt, kernel, number, None),
         Step::NoCurrency(number) => check_currency(rt, kernel, number, None),
         Step::NoThread(number) => check_thread(rt, kernel, number, None),
-        // `take` gives these to the kernel.
-        Step::Gives(..)
-        | Step::Wins(..)
-        | Step::Idles(..)
-        | Step::Traps(..)
-        | Step::Works(..)
-        | Step::Pauses(..) => {}
+        // `take` gives the others to the kernel.
+        _ => {}
     }
 }
 
@@ -305,11 +348,7 @@ fn largest_limits(quantum: u32, unit: u32) -> Option<Limits> {
         scripts: 1,
         quantum,
         unit,
-        reuse: false,
-        plain_names: false,
-        without_compensation: false,
-        without_lending: false,
-        queued_lend: false,
+        ..Sizes::SMALLEST
     })
 }
 
@@ -416,15 +455,12 @@ fn fund_five(rt: &impl Abort, kernel: &mut Kernel) {
     }
 }
 
-/// A draw of 20 that the thread wins, and the end of its quantum.
-fn check_draw(rt: &impl Abort, kernel: &mut Kernel, d: u128, thread: u32, number: u128) {
+/// A draw with this winner, and the end of its quantum.
+fn check_draw(rt: &impl Abort, kernel: &mut Kernel, d: u128, winner: Winner) {
+    let (thread, _, _) = winner;
     let expired = Reply::Expired { thread, ticks: 100 };
-    check_run(
-        rt,
-        kernel,
-        &[Event::Draw(1, d), Event::Expire(1)],
-        &[won(thread, number, 20, None), expired],
-    );
+    let events = [Event::Draw(1, d), Event::Expire(1)];
+    check_run(rt, kernel, &events, &[winning(winner, None), expired]);
 }
 
 /// Drawn numbers, with the threads that win of 20 with them, and these numbers of 20.
@@ -446,7 +482,7 @@ const DRAWS: &[(u128, u32, u128)] = &[
 
 fn check_draws(rt: &impl Abort, kernel: &mut Kernel) {
     for (d, thread, number) in DRAWS {
-        check_draw(rt, kernel, *d, *thread, *number);
+        check_draw(rt, kernel, *d, (*thread, *number, 20));
     }
 }
 
@@ -508,37 +544,21 @@ const OUT_OF_PLACE: [Event; 10] = [
     Event::Draw(1, 0),
 ];
 
-static OUT_OF_PLACE_REPLIES: [Reply; 10] = [
-    Reply::Refused(Refusal::BadProcessor),
-    Reply::Refused(Refusal::BadProcessor),
-    Reply::Refused(Refusal::NotRunning),
-    Reply::Winner {
-        thread: 1,
-        number: 0,
-        total: 10,
-        delivered: None,
-    },
-    Reply::Refused(Refusal::Busy),
-    Reply::Idle,
-    Reply::Refused(Refusal::BadTicks),
-    Reply::Refused(Refusal::BadTicks),
-    Reply::Trapped {
-        thread: 1,
-        ticks: 100,
-        outcome: Outcome::Exited,
-        ends: false,
-    },
-    Reply::Idle,
-];
-
-const DEAD_TARGET: &[Step<'static>] = &[Step::Gives(
-    "fund 2 a",
-    Reply::Refused(Refusal::DeadThread),
-)];
-
 /// Makes the events out of place, and compares the replies.
 fn run_out_of_place(rt: &impl Abort, kernel: &mut Kernel) {
-    check_run(rt, kernel, &OUT_OF_PLACE, &OUT_OF_PLACE_REPLIES)
+    let replies = [
+        Reply::Refused(Refusal::BadProcessor),
+        Reply::Refused(Refusal::BadProcessor),
+        Reply::Refused(Refusal::NotRunning),
+        won(1, 0, 10, None),
+        Reply::Refused(Refusal::Busy),
+        Reply::Idle,
+        Reply::Refused(Refusal::BadTicks),
+        Reply::Refused(Refusal::BadTicks),
+        trapped_after(1, 99, Outcome::Exited),
+        Reply::Idle,
+    ];
+    check_run(rt, kernel, &OUT_OF_PLACE, &replies)
 }
 
 #[test]
@@ -547,7 +567,8 @@ fn events_out_of_place(rt: HostRuntime) {
     take_all(&rt, &mut kernel, ONE_FUNDED);
     take_all(&rt, &mut kernel, NO_THREAD_RUNS);
     run_out_of_place(&rt, &mut kernel);
-    take_all(&rt, &mut kernel, DEAD_TARGET)
+    let dead = Reply::Refused(Refusal::DeadThread);
+    check_answer(&rt, &mut kernel, "fund 2 a", dead)
 }
 
 /// Gives one thread as many tickets as possible, of the largest amount.
@@ -618,27 +639,9 @@ const PAPERS_GRAPH: &[Step<'static>] = &[
     Step::Gives("fund 4 task2", Reply::Done),
     Step::Gives("mktkt 100 bob", Reply::Ticket(5)),
     Step::Gives("fund 5 task3", Reply::Done),
-    Step::Gives(
-        "fundx 200 task2 thread2 1",
-        Reply::Funded {
-            ticket: 6,
-            thread: 1,
-        },
-    ),
-    Step::Gives(
-        "fundx 300 task2 thread3 1",
-        Reply::Funded {
-            ticket: 7,
-            thread: 2,
-        },
-    ),
-    Step::Gives(
-        "fundx 100 task3 thread4 1",
-        Reply::Funded {
-            ticket: 8,
-            thread: 3,
-        },
-    ),
+    Step::Funds("fundx 200 task2 thread2 1", 6, 1),
+    Step::Funds("fundx 300 task2 thread3 1", 7, 2),
+    Step::Funds("fundx 100 task3 thread4 1", 8, 3),
     Step::Gives("lscur", Reply::List(Kind::Currencies)),
     Step::Gives("lstkt", Reply::List(Kind::Tickets)),
     Step::Gives("lsthr", Reply::List(Kind::Threads)),
@@ -786,13 +789,7 @@ const NOTHING: &[Step<'static>] = &[
     Step::Idles(1, 0),
     Step::Idles(1, 1),
     Step::Idles(1, u128::MAX),
-    Step::Gives(
-        "fundx 1 base c 1",
-        Reply::Funded {
-            ticket: 4,
-            thread: 3,
-        },
-    ),
+    Step::Funds("fundx 1 base c 1", 4, 3),
     Step::Wins(1, 0, (3, 0, 1), None),
 ];
 
@@ -809,20 +806,8 @@ const TWO_LEVELS: &[Step<'static>] = &[
     Step::Gives("fund 1 g", Reply::Done),
     Step::Gives("mktkt 1 g", Reply::Ticket(2)),
     Step::Gives("fund 2 h", Reply::Done),
-    Step::Gives(
-        "fundx 1 h a 1",
-        Reply::Funded {
-            ticket: 3,
-            thread: 1,
-        },
-    ),
-    Step::Gives(
-        "fundx 1 g b 1",
-        Reply::Funded {
-            ticket: 4,
-            thread: 2,
-        },
-    ),
+    Step::Funds("fundx 1 h a 1", 3, 1),
+    Step::Funds("fundx 1 g b 1", 4, 2),
     Step::Value(1, 50),
     Step::Value(2, 50),
 ];
@@ -837,19 +822,14 @@ const ONE_LEVEL: &[Step<'static>] = &[
     Step::Ticket((2, 1, "g", "h", Target::Currency(2), false, 0)),
     Step::Ticket((3, 1, "h", "a", Target::Thread(1), false, 0)),
     Step::Thread((1, "a", Status::Dead, 0, 0, 1, 1)),
-    Step::Thread((
-        2,
-        "b",
-        Status::Running {
-            processor: 1,
-            used: 0,
-        },
-        100,
-        100,
-        1,
-        0,
-    )),
+    Step::Thread((2, "b", STARTED, 100, 100, 1, 0)),
 ];
+
+/// On processor 1, with no ticks used.
+const STARTED: Status = Status::Running {
+    processor: 1,
+    used: 0,
+};
 
 /// The lower thread wins a draw, and exits.
 fn exit_lower(rt: &impl Abort, kernel: &mut Kernel) {

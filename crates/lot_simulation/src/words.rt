@@ -243,7 +243,7 @@ fn word_spelled<W: Copy>(mut table: &[WordRow<W>], is_timed: bool, token: &[u8])
         ≡ word_in (words_for is_timed (map (λ row. (row.0.now, row.1, row.2)) table.entry.now)) token.now }
 {
     while let [row, rest @ ..] = table {
-        if (is_timed || !row.2) && row.0 == token {
+        if row.0 == token && (is_timed || !row.2) {
             return Some(row.1);
         }
         table = rest;

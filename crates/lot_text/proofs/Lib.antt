@@ -10,4 +10,5 @@ pub mod ReadingLemmas
 pub mod RunLemmas
 pub mod ScriptLemmas
 pub mod TokenLemmas
+pub mod WordLemmas
 pub mod Lemmas

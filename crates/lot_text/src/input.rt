@@ -230,12 +230,13 @@ fn line_outside(
     ensures { Gives reading.new result (line_outside_read number reading.old
         (word_in (header_words_of reading.old) word.now) (word_in (body_words_of reading.old) word.now) tokens.entry) }
 {
-    if let Some(word) = HeaderWord::of_token(reading.format, word) {
-        return header_line(alloc, reading, word, tokens);
-    }
+    // No word begins a line of both, and most lines are of the body.
     match BodyWord::of_token(reading.format, word) {
         Some(_) if reading.lacks_duration() => Err(LineFault::Refused(InputRefusal::BadHeader)),
         Some(word) => body_line(alloc, number, reading, word, tokens),
-        None => Err(LineFault::Refused(InputRefusal::BadLine)),
+        None => match HeaderWord::of_token(reading.format, word) {
+            Some(word) => header_line(alloc, reading, word, tokens),
+            None => Err(LineFault::Refused(InputRefusal::BadLine)),
+        },
     }
 }

@@ -20,6 +20,7 @@ use std::process::Abort;
 struct Asked<'a>(Verb, &'a str);
 
 /// The expected program of an input.
+#[derive(Clone, Copy)]
 struct Said<'a> {
     sizes: Sizes,
     seeds: &'a [u32],
@@ -123,29 +124,40 @@ fn check_said(rt: &impl Abort, alloc: Global, text: &str, said: &Said<'_>) {
     check_program(rt, &program, said);
 }
 
+/// The sizes of an input without lines of the header.
+const USUAL: Sizes = Sizes {
+    tickets: 65535,
+    currencies: 4096,
+    threads: 4096,
+    quantum: 100,
+    ..Sizes::SMALLEST
+};
+
+/// The program of an input without lines after the first.
+const NOTHING: Said<'static> = Said {
+    sizes: USUAL,
+    seeds: &[1],
+    turns: 0,
+    scripts: &[],
+    commands: &[],
+    schedule: &[],
+    duration: None,
+    times: &[],
+    ticket_names: 0,
+    names: &[],
+    options: Options::NONE,
+};
+
 const FIRST_RUN: &str =
     "lottery 1\n# no header\nscript spin\n  compute   1000 \n\nendscript\nmktkt 10 base\nmkthr a spin\nfund 1 a\n\
     mktkt 18446744073709551615 base\nmkthr b none\nfund 2 b\nschedule 0 0 0\nschedule 1 1 0";
 
 const FIRST_RUN_SAYS: &Said<'static> = &Said {
     sizes: Sizes {
-        tickets: 65535,
-        currencies: 4096,
-        threads: 4096,
-        ports: 0,
-        mutexes: 0,
-        processors: 1,
         scripts: 1,
-        quantum: 100,
-        unit: 1,
-        reuse: false,
-        plain_names: false,
-        without_compensation: false,
-        without_lending: false,
-        queued_lend: false,
+        ..USUAL
     },
     seeds: &[1],
-    turns: 0,
     scripts: &[&[ScriptLine::Compute(1000)]],
     commands: &[
         Asked(Verb::MakeTicket, "10 base"),
@@ -156,11 +168,7 @@ const FIRST_RUN_SAYS: &Said<'static> = &Said {
         Asked(Verb::Fund, "2 b"),
     ],
     schedule: &[0, 0, 0, 1, 1, 0],
-    duration: None,
-    times: &[],
-    ticket_names: 0,
-    names: &[],
-    options: Options::NONE,
+    ..NOTHING
 };
 
 #[test]
@@ -197,28 +205,14 @@ const HEADERS_SAY: &Said<'static> = &Said {
         tickets: 3,
         currencies: 2,
         threads: 1,
-        ports: 0,
-        mutexes: 0,
-        processors: 1,
         scripts: 1,
         quantum: 7,
         unit: 256,
-        reuse: false,
-        plain_names: false,
-        without_compensation: false,
-        without_lending: false,
-        queued_lend: false,
+        ..USUAL
     },
     seeds: &[2147483646],
-    turns: 0,
     scripts: &[&[]],
-    commands: &[],
-    schedule: &[],
-    duration: None,
-    times: &[],
-    ticket_names: 0,
-    names: &[],
-    options: Options::NONE,
+    ..NOTHING
 };
 
 #[test]
@@ -245,11 +239,7 @@ const WHOLE_GRAMMAR_SAYS: &Said<'static> = &Said {
         scripts: 2,
         quantum: 7,
         unit: 256,
-        reuse: false,
-        plain_names: false,
-        without_compensation: false,
-        without_lending: false,
-        queued_lend: false,
+        ..USUAL
     },
     seeds: &[5, 6],
     turns: 10000,
@@ -283,11 +273,7 @@ const WHOLE_GRAMMAR_SAYS: &Said<'static> = &Said {
         Asked(Verb::List(Kind::Threads), ""),
     ],
     schedule: &[0, 0, 2, 1, 0],
-    duration: None,
-    times: &[],
-    ticket_names: 0,
-    names: &[],
-    options: Options::NONE,
+    ..NOTHING
 };
 
 #[test]
@@ -305,20 +291,12 @@ const TIMED: &str =
 /// The seeds are those after 1 of the generator that multiplies by 48271 modulo 2147483647.
 const TIMED_SAYS: &Said<'static> = &Said {
     sizes: Sizes {
-        tickets: 65535,
-        currencies: 4096,
-        threads: 4096,
         ports: 1,
-        mutexes: 0,
         processors: 2,
         scripts: 1,
-        quantum: 100,
         unit: 256,
         reuse: true,
-        plain_names: false,
-        without_compensation: false,
-        without_lending: false,
-        queued_lend: false,
+        ..USUAL
     },
     seeds: &[48271, 182605794],
     turns: 5,
@@ -342,10 +320,8 @@ const TIMED_SAYS: &Said<'static> = &Said {
         Asked(Verb::Kill, "a"),
         Asked(Verb::Kill, "fedcba9876543210"),
     ],
-    schedule: &[],
     duration: Some(4294967295),
     times: &[0, 20, 20, 20, 20, 20, 20, 20, 20, 20],
-    ticket_names: 0,
     names: &[None; 10],
     options: Options {
         reuse: true,
@@ -353,6 +329,7 @@ const TIMED_SAYS: &Said<'static> = &Said {
         without_lending: false,
         strict: false,
     },
+    ..NOTHING
 };
 
 #[test]
@@ -376,32 +353,24 @@ const HEADER_ORDERS_SAY: &Said<'static> = &Said {
         currencies: 3,
         threads: 2,
         ports: 1,
-        mutexes: 0,
         processors: 2,
-        scripts: 0,
         quantum: 50,
         unit: 256,
         reuse: true,
-        plain_names: false,
         without_compensation: true,
         without_lending: true,
-        queued_lend: false,
+        ..USUAL
     },
     seeds: &[7, 8],
     turns: 5,
-    scripts: &[],
-    commands: &[],
-    schedule: &[],
     duration: Some(9),
-    times: &[],
-    ticket_names: 0,
-    names: &[],
     options: Options {
         reuse: true,
         without_compensation: true,
         without_lending: true,
         strict: true,
     },
+    ..NOTHING
 };
 
 fn check_header_order(rt: &impl Abort, alloc: Global, header: &str) {
@@ -423,23 +392,11 @@ const NAMED: &str =
 
 const NAMED_SAYS: &Said<'static> = &Said {
     sizes: Sizes {
-        tickets: 65535,
-        currencies: 4096,
-        threads: 4096,
-        ports: 0,
-        mutexes: 0,
-        processors: 1,
         scripts: 1,
-        quantum: 100,
         unit: 256,
-        reuse: false,
-        plain_names: false,
-        without_compensation: false,
-        without_lending: false,
-        queued_lend: false,
+        ..USUAL
     },
     seeds: &[48271],
-    turns: 0,
     scripts: &[&[]],
     commands: &[
         Asked(Verb::MakeTicket, "5 base"),
@@ -452,7 +409,6 @@ const NAMED_SAYS: &Said<'static> = &Said {
         Asked(Verb::RemoveTicket, "0"),
         Asked(Verb::List(Kind::Tickets), ""),
     ],
-    schedule: &[],
     duration: Some(9),
     times: &[0, 0, 0, 0, 0, 4, 4, 4, 4],
     ticket_names: 2,
@@ -467,7 +423,7 @@ const NAMED_SAYS: &Said<'static> = &Said {
         Some(1),
         None,
     ],
-    options: Options::NONE,
+    ..NOTHING
 };
 
 #[test]

@@ -112,14 +112,8 @@ line 11: the command was refused: no thread has the name 'b'
 #[test]
 fn one_command_never_made(rt: HostRuntime) {
     let input = "lottery 1\nmkcur a\nmkcur b\nschedule 0\n";
-    check_told(
-        &rt,
-        rt.alloc(),
-        "play",
-        input,
-        0,
-        "line 3: this command was never made: each 0 in a schedule makes one\n",
-    );
+    let expected = "line 3: this command was never made: each 0 in a schedule makes one\n";
+    check_told(&rt, rt.alloc(), "play", input, 0, expected);
 }
 
 #[test]
@@ -127,13 +121,7 @@ fn many_refused(rt: HostRuntime) {
     let input =
         "lottery 1\nrmtkt 1\nrmtkt 2\nrmtkt 3\nrmtkt 4\nrmtkt 5\nrmtkt 6\nrmtkt 7\nrmtkt 8\nrmtkt 9\nrmtkt 10\n\
         schedule 0 0 0 0 0 0 0 0 0 0\n";
-    check_told(
-        &rt,
-        rt.alloc(),
-        "play",
-        input,
-        0,
-        "line 2: the command was refused: no ticket has the number 1
+    let expected = "line 2: the command was refused: no ticket has the number 1
 line 3: the command was refused: no ticket has the number 2
 line 4: the command was refused: no ticket has the number 3
 line 5: the command was refused: no ticket has the number 4
@@ -142,8 +130,8 @@ line 7: the command was refused: no ticket has the number 6
 line 8: the command was refused: no ticket has the number 7
 line 9: the command was refused: no ticket has the number 8
 and 2 more commands that were refused
-",
-    );
+";
+    check_told(&rt, rt.alloc(), "play", input, 0, expected);
 }
 
 // A server without tickets of its own: after its reply no ticket funds it, so it never takes the second call, and both
@@ -153,16 +141,11 @@ fn stuck_server(rt: HostRuntime) {
     let input =
         "lottery 1\nquantum 10\nport p\nscript srv\nreceive p\nreply\nreceive p\nendscript\n\
         script cli\ncall p\ncall p\nendscript\nmkthr s srv\nfundx 5 base c cli\nschedule 0 0 1 1 1 1 1 1 1 1 1\n";
-    check_told(
-        &rt,
-        rt.alloc(),
-        "play",
-        input,
-        0,
+    let expected =
         "thread 's' is ready at the end and weighs nothing: it wins no draw before something funds it
 thread 'c' waits for good for a server at port 'p'
-",
-    );
+";
+    check_told(&rt, rt.alloc(), "play", input, 0, expected);
 }
 
 // The owner of the mutex has ended, so no thread will unlock it.
@@ -171,14 +154,8 @@ fn mutex_kept_by_the_dead(rt: HostRuntime) {
     let input =
         "lottery 1\nquantum 10\nmutex m\nscript one\nlock m\nendscript\nfundx 5 base a one\nfundx 5 base b one\n\
         schedule 0 0 1 1 1 1 1 1 1\n";
-    check_told(
-        &rt,
-        rt.alloc(),
-        "play",
-        input,
-        0,
-        "thread 'b' waits for good for mutex 'm', whose owner, thread 'a', has ended\n",
-    );
+    let expected = "thread 'b' waits for good for mutex 'm', whose owner, thread 'a', has ended\n";
+    check_told(&rt, rt.alloc(), "play", input, 0, expected);
 }
 
 // The server has ended with a client.
@@ -187,16 +164,10 @@ fn server_that_ended(rt: HostRuntime) {
     let input =
         "lottery 1\nquantum 10\nport p\nscript srv\nreceive p\nendscript\nscript cli\ncall p\nendscript\n\
         fundx 5 base s srv\nfundx 5 base c cli\nfundx 5 base d cli\nschedule 0 0 0 1 1 1 1 1 1 1 1 1 1 1\n";
-    check_told(
-        &rt,
-        rt.alloc(),
-        "play",
-        input,
-        0,
-        "thread 'c' waits for good for a reply of thread 's'
+    let expected = "thread 'c' waits for good for a reply of thread 's'
 thread 'd' waits for good for a server at port 'p'
-",
-    );
+";
+    check_told(&rt, rt.alloc(), "play", input, 0, expected);
 }
 
 // The owner of the mutex sleeps at the end, and would go on.
@@ -368,13 +339,10 @@ fn refused_commands_of_tables(rt: HostRuntime) {
 
 /// Inputs on standard input, and the diagnostics of a play of each.
 const SHOW_LITTLE: &[(&str, &str)] = &[
-    (
-        "lottery 3\nfor 300\n",
-        "nothing runs: no line makes a thread, as 'fundx AMOUNT CURRENCY NAME SCRIPT' does\n",
-    ),
+    ("lottery 3\nfor 300\n", NO_THREAD),
     (
         "lottery 3\nfor 300\nscript s\nendscript\nmkcur c\nat 5\nlscur\n",
-        "nothing runs: no line makes a thread, as 'fundx AMOUNT CURRENCY NAME SCRIPT' does\n",
+        NO_THREAD,
     ),
     (
         "lottery 3\nfor 50\nscript s\ncompute 90 endscript\nfundx 1 base a s\n",

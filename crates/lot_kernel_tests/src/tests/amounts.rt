@@ -35,21 +35,6 @@ fn refused_amounts(rt: HostRuntime) {
 /// Two threads with 100 of base each.
 const EVEN: &[(u64, &str)] = &[(100, "a"), (100, "b")];
 
-const EVEN_DRAWS: [Event; 2] = [Event::Draw(1, 199), Event::Expire(1)];
-
-static EVEN_REPLIES: [Reply; 2] = [
-    Reply::Winner {
-        thread: 2,
-        number: 199,
-        total: 200,
-        delivered: None,
-    },
-    Reply::Expired {
-        thread: 2,
-        ticks: 100,
-    },
-];
-
 /// Thread `a` gets 300, and `b` gets 4 while it runs. Both count at once, and each ticket keeps its target.
 const INFLATION: &[Step<'static>] = &[
     Step::Gives("settkt 1 300", Reply::Done),
@@ -67,7 +52,7 @@ const INFLATION: &[Step<'static>] = &[
 fn inflation(rt: HostRuntime) {
     let mut kernel = largest(&rt, rt.alloc(), 1);
     fund(&rt, &mut kernel, EVEN);
-    check_run(&rt, &mut kernel, &EVEN_DRAWS, &EVEN_REPLIES);
+    check_draw(&rt, &mut kernel, 199, (2, 199, 200));
     take_all(&rt, &mut kernel, INFLATION)
 }
 

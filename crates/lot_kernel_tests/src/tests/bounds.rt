@@ -12,11 +12,7 @@ const LEAST: Sizes = Sizes {
     scripts: 0,
     quantum: 1,
     unit: 1,
-    reuse: false,
-    plain_names: false,
-    without_compensation: false,
-    without_lending: false,
-    queued_lend: false,
+    ..Sizes::SMALLEST
 };
 
 /// The largest sizes.
@@ -30,11 +26,7 @@ const MOST: Sizes = Sizes {
     scripts: 256,
     quantum: 1000,
     unit: 256,
-    reuse: false,
-    plain_names: false,
-    without_compensation: false,
-    without_lending: false,
-    queued_lend: false,
+    ..Sizes::SMALLEST
 };
 
 /// Sizes with one of them one past its bound. A unit is 1 or 256.

@@ -29,13 +29,7 @@ const ELSEWHERE: &[Step<'static>] = &[
     Step::Wins(2, 0, (2, 0, 100), None),
     Step::Gives("kill a", Reply::Killed(1)),
     Step::Traps(2, Action::Lock(2), 2, Outcome::Locked),
-    Step::Pauses(
-        Pause::Preempt(2, 49),
-        Reply::Expired {
-            thread: 2,
-            ticks: 49,
-        },
-    ),
+    Step::Expires(Pause::Preempt(2, 49), 2, 49),
     Step::Thread((2, "b", Status::Ready, 100, 100, 1, 50)),
     Step::Wins(1, 199, (2, 99, 100), None),
 ];
@@ -62,20 +56,8 @@ const SHARED: &[Step<'static>] = &[
     Step::Gives("mkcur g", Reply::Currency(1)),
     Step::Gives("mktkt 100 base", Reply::Ticket(1)),
     Step::Gives("fund 1 g", Reply::Done),
-    Step::Gives(
-        "fundx 1 g a 1",
-        Reply::Funded {
-            ticket: 2,
-            thread: 1,
-        },
-    ),
-    Step::Gives(
-        "fundx 1 g b 1",
-        Reply::Funded {
-            ticket: 3,
-            thread: 2,
-        },
-    ),
+    Step::Funds("fundx 1 g a 1", 2, 1),
+    Step::Funds("fundx 1 g b 1", 3, 2),
     Step::Value(1, 50),
     Step::Gives("kill a", Reply::Killed(1)),
     Step::Ticket((2, 1, "g", "a", Target::Thread(1), false, 0)),
@@ -102,15 +84,7 @@ const SERVER: &[Step<'static>] = &[
     Step::Thread((2, "c", Status::Ready, 20, 2000, 1, 1)),
     Step::Thread((3, "d", Status::Queued(1), 0, 0, 1, 1)),
     Step::Wins(1, 1999, (2, 1999, 2000), None),
-    Step::Traps(
-        1,
-        Action::Receive(1),
-        2,
-        Outcome::Received {
-            client: 3,
-            number: 6,
-        },
-    ),
+    Step::Receives(1, 1, 2, (3, 6)),
 ];
 
 /// Thread `c` is killed while `s` serves it: `s` is worth its own ticket alone, and has nobody to reply to.
@@ -122,12 +96,7 @@ const CLIENT: &[Step<'static>] = &[
     Step::Value(1, 30),
     Step::Gives("kill c", Reply::Killed(2)),
     Step::Wins(1, 999, (1, 999, 1030), Some(5)),
-    Step::Traps(
-        1,
-        Action::Reply(9),
-        1,
-        Outcome::Refused(TrapRefusal::NothingToReply),
-    ),
+    Step::Refuses(1, Action::Reply(9), 1, TrapRefusal::NothingToReply),
 ];
 
 #[test]
@@ -146,15 +115,7 @@ const CALLER: &[Step<'static>] = &[
     Step::Traps(1, Action::Call(1, 8), 2, Outcome::Queued),
     Step::Gives("kill a", Reply::Killed(1)),
     Step::Wins(1, 0, (3, 0, 30), None),
-    Step::Traps(
-        1,
-        Action::Receive(1),
-        3,
-        Outcome::Received {
-            client: 2,
-            number: 8,
-        },
-    ),
+    Step::Receives(1, 1, 3, (2, 8)),
     Step::Idles(2, 0),
 ];
 
@@ -195,15 +156,7 @@ const OWNER: &[Step<'static>] = &[
     Step::Thread((1, "o", Status::Dead, 0, 0, 1, 1)),
     Step::Thread((2, "w", Status::Ready, 50, 5000, 1, 1)),
     Step::Wins(1, 4999, (2, 4999, 5000), None),
-    Step::Traps(
-        1,
-        Action::Unlock(1, 7),
-        2,
-        Outcome::Passed {
-            to: 3,
-            draw: Some((7, 30)),
-        },
-    ),
+    Step::Passes(1, (1, 7), 2, 3, Some((7, 30))),
     Step::Value(3, 30),
 ];
 
@@ -211,15 +164,7 @@ const OWNER: &[Step<'static>] = &[
 const WAITER: &[Step<'static>] = &[
     Step::Gives("kill w", Reply::Killed(2)),
     Step::Value(1, 40),
-    Step::Traps(
-        1,
-        Action::Unlock(1, 7),
-        1,
-        Outcome::Passed {
-            to: 3,
-            draw: Some((7, 30)),
-        },
-    ),
+    Step::Passes(1, (1, 7), 1, 3, Some((7, 30))),
     Step::Value(1, 10),
 ];
 

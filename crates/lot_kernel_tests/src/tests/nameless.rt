@@ -16,13 +16,7 @@ const EIGHT: Sizes = Sizes {
 const NAMELESS: &[Step<'static>] = &[
     Step::Gives("mkthr  1", Reply::Thread(1)),
     Step::Gives("mkthr  1", Reply::Thread(2)),
-    Step::Gives(
-        "fundx 10 base  1",
-        Reply::Funded {
-            ticket: 1,
-            thread: 3,
-        },
-    ),
+    Step::Funds("fundx 10 base  1", 1, 3),
     Step::Gives("mkcur ", Reply::Refused(Refusal::BadName)),
     Step::Gives("mktkt 5 base", Reply::Ticket(2)),
     Step::Gives("fund 2 ", Reply::Refused(Refusal::NoTarget)),

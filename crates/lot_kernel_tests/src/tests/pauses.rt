@@ -55,22 +55,10 @@ const PREEMPTED: &[Step<'static>] = &[
     Step::Pauses(Pause::Preempt(2, 0), Reply::Refused(Refusal::NotRunning)),
     Step::Works(1, 19, Action::Lock(1), 1, Outcome::Locked),
     Step::Pauses(Pause::Preempt(1, 81), Reply::Refused(Refusal::BadTicks)),
-    Step::Pauses(
-        Pause::Preempt(1, 30),
-        Reply::Expired {
-            thread: 1,
-            ticks: 30,
-        },
-    ),
+    Step::Expires(Pause::Preempt(1, 30), 1, 30),
     Step::Thread((1, "a", Status::Ready, 400, 400, 1, 50)),
     Step::Wins(1, 399, (1, 399, 400), None),
-    Step::Pauses(
-        Pause::Preempt(1, 100),
-        Reply::Expired {
-            thread: 1,
-            ticks: 100,
-        },
-    ),
+    Step::Expires(Pause::Preempt(1, 100), 1, 100),
 ];
 
 /// After a quantum that ended late, the thread weighs less in proportion, until it next wins.
@@ -84,31 +72,13 @@ const LATE: &[Step<'static>] = &[
         Pause::Overrun(1, 4294967196),
         Reply::Refused(Refusal::BadTicks),
     ),
-    Step::Pauses(
-        Pause::Overrun(1, 300),
-        Reply::Expired {
-            thread: 1,
-            ticks: 380,
-        },
-    ),
+    Step::Expires(Pause::Overrun(1, 300), 1, 380),
     Step::Thread((1, "a", Status::Ready, 400, 100, 1, 400)),
     Step::Wins(1, 99, (1, 99, 100), None),
-    Step::Pauses(
-        Pause::Overrun(1, 0),
-        Reply::Expired {
-            thread: 1,
-            ticks: 100,
-        },
-    ),
+    Step::Expires(Pause::Overrun(1, 0), 1, 100),
     Step::Thread((1, "a", Status::Ready, 400, 400, 2, 500)),
     Step::Wins(1, 0, (1, 0, 400), None),
-    Step::Pauses(
-        Pause::Overrun(1, 4294967195),
-        Reply::Expired {
-            thread: 1,
-            ticks: 4294967295,
-        },
-    ),
+    Step::Expires(Pause::Overrun(1, 4294967195), 1, 4294967295),
     Step::Thread((1, "a", Status::Ready, 400, 1, 3, 4294967795)),
     Step::Wins(1, 7, (1, 0, 1), None),
 ];
@@ -131,13 +101,7 @@ const UNCOMPENSATED: &[Step<'static>] = &[
     Step::Works(1, 19, Action::Sleep(()), 1, Outcome::Slept),
     Step::Pauses(Pause::Wake(1), Reply::Done),
     Step::Wins(1, 399, (1, 399, 400), None),
-    Step::Pauses(
-        Pause::Overrun(1, 300),
-        Reply::Expired {
-            thread: 1,
-            ticks: 400,
-        },
-    ),
+    Step::Expires(Pause::Overrun(1, 300), 1, 400),
     Step::Thread((1, "a", Status::Ready, 400, 400, 3, 440)),
 ];
 

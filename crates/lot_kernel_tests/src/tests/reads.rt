@@ -229,13 +229,7 @@ fn what_is_read(rt: HostRuntime) {
 
 const TWO_FUNDED: &[Step<'static>] = &[
     Step::Gives("fundx 10 base a 1", FIRST_FUNDED),
-    Step::Gives(
-        "fundx 5 base b 1",
-        Reply::Funded {
-            ticket: 2,
-            thread: 2,
-        },
-    ),
+    Step::Funds("fundx 5 base b 1", 2, 2),
 ];
 
 fn check_ticket_row(rt: &impl Abort, found: &Option<TicketRow>, shown: TicketShown<'_>) {

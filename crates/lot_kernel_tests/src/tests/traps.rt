@@ -19,12 +19,7 @@ fn run_funded(
 
 /// A draw, a yield after this many ticks of work, and the largest draw of this total, by a thread with this much base.
 fn check_compensation(rt: &impl Abort, alloc: Global, (amount, ran, total): (u64, u32, u64)) {
-    let yielded = Reply::Trapped {
-        thread: 1,
-        ticks: ran.saturating_add(1),
-        outcome: Outcome::Yielded,
-        ends: false,
-    };
+    let yielded = trapped_after(1, ran, Outcome::Yielded);
     let last = total.saturating_sub(1);
     let mut kernel = run_funded(
         rt,
@@ -46,11 +41,7 @@ fn check_compensation(rt: &impl Abort, alloc: Global, (amount, ran, total): (u64
 
 /// Compares the thread that won a second time, after this many ticks, with the expected row.
 fn check_compensated(rt: &impl Abort, kernel: &mut Kernel, amount: u64, ticks: u64) {
-    let runs = Status::Running {
-        processor: 1,
-        used: 0,
-    };
-    let row = thread_row(rt, (1, "a", runs, amount, u128::from(amount), 2, ticks));
+    let row = thread_row(rt, (1, "a", STARTED, amount, u128::from(amount), 2, ticks));
     check_thread(rt, kernel, 1, Some(row));
 }
 
@@ -69,25 +60,10 @@ const EXPIRED: Reply = Reply::Expired {
     ticks: 100,
 };
 
-static EXPIRY_REPLIES: [Reply; 3] = [
-    Reply::Winner {
-        thread: 1,
-        number: 0,
-        total: 400,
-        delivered: None,
-    },
-    EXPIRED,
-    Reply::Winner {
-        thread: 1,
-        number: 0,
-        total: 400,
-        delivered: None,
-    },
-];
-
 #[test]
 fn an_expiry_gives_no_compensation(rt: HostRuntime) {
-    run_funded(&rt, rt.alloc(), 400, &EXPIRY, &EXPIRY_REPLIES);
+    let drawn = won(1, 0, 400, None);
+    run_funded(&rt, rt.alloc(), 400, &EXPIRY, &[drawn, EXPIRED, drawn]);
 }
 
 const TWO_PROCESSORS: [Event; 4] = [
@@ -97,43 +73,16 @@ const TWO_PROCESSORS: [Event; 4] = [
     Event::Draw(2, 3),
 ];
 
-static TWO_PROCESSORS_REPLIES: [Reply; 4] = [
-    Reply::Winner {
-        thread: 1,
-        number: 4,
-        total: 10,
-        delivered: None,
-    },
-    Reply::Idle,
-    EXPIRED,
-    Reply::Winner {
-        thread: 1,
-        number: 3,
-        total: 10,
-        delivered: None,
-    },
-];
-
 #[test]
 fn two_processors(rt: HostRuntime) {
-    run_funded(
-        &rt,
-        rt.alloc(),
-        10,
-        &TWO_PROCESSORS,
-        &TWO_PROCESSORS_REPLIES,
-    );
+    let (first, last) = (won(1, 4, 10, None), won(1, 3, 10, None));
+    let replies = [first, Reply::Idle, EXPIRED, last];
+    run_funded(&rt, rt.alloc(), 10, &TWO_PROCESSORS, &replies);
 }
 
 const WAITING_SERVER: &[Step<'static>] = &[
     Step::Gives("mkthr v 1", Reply::Thread(1)),
-    Step::Gives(
-        "fundx 400 base c 1",
-        Reply::Funded {
-            ticket: 1,
-            thread: 2,
-        },
-    ),
+    Step::Funds("fundx 400 base c 1", 1, 2),
     Step::Gives("mktkt 1 base", Reply::Ticket(2)),
     Step::Gives("fund 2 v", Reply::Done),
     Step::Wins(1, 0, (1, 0, 401), None),
@@ -158,42 +107,16 @@ const QUEUED_CALL: &[Step<'static>] = &[
     Step::Gives("mkcur g", Reply::Currency(1)),
     Step::Gives("mktkt 300 base", Reply::Ticket(1)),
     Step::Gives("fund 1 g", Reply::Done),
-    Step::Gives(
-        "fundx 100 g c 1",
-        Reply::Funded {
-            ticket: 2,
-            thread: 1,
-        },
-    ),
-    Step::Gives(
-        "fundx 100 g x 1",
-        Reply::Funded {
-            ticket: 3,
-            thread: 2,
-        },
-    ),
-    Step::Gives(
-        "fundx 10 base y 1",
-        Reply::Funded {
-            ticket: 4,
-            thread: 3,
-        },
-    ),
+    Step::Funds("fundx 100 g c 1", 2, 1),
+    Step::Funds("fundx 100 g x 1", 3, 2),
+    Step::Funds("fundx 10 base y 1", 4, 3),
     Step::Wins(1, 0, (1, 0, 310), None),
     Step::Traps(1, Action::Call(1, 7), 1, Outcome::Queued),
     Step::Value(1, 0),
     Step::Value(2, 300),
     Step::Value(3, 10),
     Step::Wins(1, 300, (3, 300, 310), None),
-    Step::Traps(
-        1,
-        Action::Receive(1),
-        3,
-        Outcome::Received {
-            client: 1,
-            number: 7,
-        },
-    ),
+    Step::Receives(1, 1, 3, (1, 7)),
     Step::Value(1, 150),
     Step::Value(2, 150),
     Step::Value(3, 160),
@@ -237,30 +160,14 @@ const CONTENDED: &[Step<'static>] = &[
 ];
 
 const PASSED_TO_SECOND: &[Step<'static>] = &[
-    Step::Traps(
-        1,
-        Action::Unlock(1, 99),
-        1,
-        Outcome::Passed {
-            to: 2,
-            draw: Some((99, 400)),
-        },
-    ),
+    Step::Passes(1, (1, 99), 1, 2, Some((99, 400))),
     Step::Thread((1, "a", Status::Ready, 50, 5000, 2, 3)),
     Step::Thread((2, "b", Status::Ready, 400, 40000, 1, 1)),
     Step::Thread((3, "c", Status::Waiting(1), 300, 30000, 1, 1)),
 ];
 
 const PASSED_TO_THIRD: &[Step<'static>] = &[
-    Step::Traps(
-        1,
-        Action::Unlock(1, 100),
-        1,
-        Outcome::Passed {
-            to: 3,
-            draw: Some((100, 400)),
-        },
-    ),
+    Step::Passes(1, (1, 100), 1, 3, Some((100, 400))),
     Step::Thread((2, "b", Status::Waiting(1), 100, 10000, 1, 1)),
     Step::Thread((3, "c", Status::Ready, 400, 40000, 1, 1)),
 ];
@@ -285,12 +192,7 @@ const WORTHLESS_WAITERS: &[Step<'static>] = &[
     Step::Gives("unfund 2", Reply::Done),
     Step::Gives("unfund 3", Reply::Done),
     Step::Wins(1, 0, (1, 0, 500), None),
-    Step::Traps(
-        1,
-        Action::Unlock(1, 5),
-        1,
-        Outcome::Passed { to: 2, draw: None },
-    ),
+    Step::Passes(1, (1, 5), 1, 2, None),
     Step::Wins(1, 0, (1, 0, 1000), None),
 ];
 
@@ -304,48 +206,23 @@ fn waiters_worth_nothing(rt: HostRuntime) {
     )
 }
 
+/// On processor 2, after 5 ticks.
+const USED_5: Status = Status::Running {
+    processor: 2,
+    used: 5,
+};
+
 const LOCK_CYCLE: &[Step<'static>] = &[
     Step::Wins(1, 0, (1, 0, 20), None),
     Step::Wins(2, 0, (2, 0, 10), None),
     Step::Traps(1, Action::Lock(1), 1, Outcome::Locked),
     Step::Traps(2, Action::Lock(2), 2, Outcome::Locked),
     Step::Traps(1, Action::Lock(2), 1, Outcome::Waits),
-    Step::Traps(
-        2,
-        Action::Lock(1),
-        2,
-        Outcome::Refused(TrapRefusal::LockCycle),
-    ),
-    Step::Traps(
-        2,
-        Action::Lock(2),
-        2,
-        Outcome::Refused(TrapRefusal::AlreadyOwner),
-    ),
-    Step::Traps(
-        2,
-        Action::Unlock(1, 0),
-        2,
-        Outcome::Refused(TrapRefusal::NotOwner),
-    ),
-    Step::Traps(
-        2,
-        Action::Lock(3),
-        2,
-        Outcome::Refused(TrapRefusal::NoMutex),
-    ),
-    Step::Thread((
-        2,
-        "b",
-        Status::Running {
-            processor: 2,
-            used: 5,
-        },
-        20,
-        20,
-        1,
-        5,
-    )),
+    Step::Refuses(2, Action::Lock(1), 2, TrapRefusal::LockCycle),
+    Step::Refuses(2, Action::Lock(2), 2, TrapRefusal::AlreadyOwner),
+    Step::Refuses(2, Action::Unlock(1, 0), 2, TrapRefusal::NotOwner),
+    Step::Refuses(2, Action::Lock(3), 2, TrapRefusal::NoMutex),
+    Step::Thread((2, "b", USED_5, 20, 20, 1, 5)),
 ];
 
 #[test]
@@ -362,41 +239,23 @@ const QUANTUM: [Event; 6] = [
     Event::Expire(1),
 ];
 
-static QUANTUM_REPLIES: [Reply; 6] = [
-    Reply::Winner {
-        thread: 1,
-        number: 0,
-        total: 10,
-        delivered: None,
-    },
-    Reply::Refused(Refusal::BadTicks),
-    Reply::Trapped {
+#[test]
+fn the_end_of_a_quantum(rt: HostRuntime) {
+    let drawn = won(1, 0, 10, None);
+    let last = Reply::Trapped {
         thread: 1,
         ticks: 100,
         outcome: Outcome::Locked,
         ends: true,
-    },
-    Reply::Winner {
-        thread: 1,
-        number: 0,
-        total: 10,
-        delivered: None,
-    },
-    Reply::Trapped {
-        thread: 1,
-        ticks: 10,
-        outcome: Outcome::Freed,
-        ends: false,
-    },
-    Reply::Expired {
+    };
+    let freed = trapped_after(1, 9, Outcome::Freed);
+    let expired = Reply::Expired {
         thread: 1,
         ticks: 90,
-    },
-];
-
-#[test]
-fn the_end_of_a_quantum(rt: HostRuntime) {
-    run_funded(&rt, rt.alloc(), 10, &QUANTUM, &QUANTUM_REPLIES);
+    };
+    let refused = Reply::Refused(Refusal::BadTicks);
+    let replies = [drawn, refused, last, drawn, freed, expired];
+    run_funded(&rt, rt.alloc(), 10, &QUANTUM, &replies);
 }
 
 const SERVINGS: &[Step<'static>] = &[
@@ -422,18 +281,8 @@ const SERVINGS: &[Step<'static>] = &[
     Step::Wins(2, 0, (2, 0, 2000), Some(8)),
     Step::Traps(1, Action::Serve(1, 9), 1, Outcome::RepliedThenWaits(3)),
     Step::Thread((1, "v", Status::Receiving(1), 0, 0, 2, 3)),
-    Step::Traps(
-        2,
-        Action::Serve(1, 7),
-        2,
-        Outcome::Refused(TrapRefusal::NothingToReply),
-    ),
-    Step::Traps(
-        2,
-        Action::Serve(3, 7),
-        2,
-        Outcome::Refused(TrapRefusal::NoPort),
-    ),
+    Step::Refuses(2, Action::Serve(1, 7), 2, TrapRefusal::NothingToReply),
+    Step::Refuses(2, Action::Serve(3, 7), 2, TrapRefusal::NoPort),
     Step::Traps(2, Action::Call(1, 4), 2, Outcome::ServedBy(1)),
     Step::Value(1, 30),
     Step::Wins(1, 1499, (1, 1499, 4500), Some(4)),
@@ -451,92 +300,37 @@ fn a_server_that_serves(rt: HostRuntime) {
     )
 }
 
+/// On processor 1, after 2 ticks.
+const USED_2: Status = Status::Running {
+    processor: 1,
+    used: 2,
+};
+
+/// On processor 1, after 7 ticks.
+const USED_7: Status = Status::Running {
+    processor: 1,
+    used: 7,
+};
+
 const REFUSED_TRAPS: &[Step<'static>] = &[
     Step::Wins(1, 0, (1, 0, 10), None),
-    Step::Traps(
-        1,
-        Action::Call(3, 0),
-        1,
-        Outcome::Refused(TrapRefusal::NoPort),
-    ),
-    Step::Traps(
-        1,
-        Action::Reply(1),
-        1,
-        Outcome::Refused(TrapRefusal::NothingToReply),
-    ),
-    Step::Thread((
-        1,
-        "a",
-        Status::Running {
-            processor: 1,
-            used: 2,
-        },
-        10,
-        10,
-        1,
-        2,
-    )),
+    Step::Refuses(1, Action::Call(3, 0), 1, TrapRefusal::NoPort),
+    Step::Refuses(1, Action::Reply(1), 1, TrapRefusal::NothingToReply),
+    Step::Thread((1, "a", USED_2, 10, 10, 1, 2)),
 ];
 
 /// Traps at unknown ports and mutexes: there are two of each kind, numbered from 1. A thread makes each of them within
 /// a quantum, and runs on.
 const UNKNOWN_OBJECTS: &[Step<'static>] = &[
     Step::Wins(1, 0, (1, 0, 10), None),
-    Step::Traps(
-        1,
-        Action::Receive(0),
-        1,
-        Outcome::Refused(TrapRefusal::NoPort),
-    ),
-    Step::Traps(
-        1,
-        Action::Receive(3),
-        1,
-        Outcome::Refused(TrapRefusal::NoPort),
-    ),
-    Step::Traps(
-        1,
-        Action::Call(0, 7),
-        1,
-        Outcome::Refused(TrapRefusal::NoPort),
-    ),
-    Step::Traps(
-        1,
-        Action::Serve(0, 7),
-        1,
-        Outcome::Refused(TrapRefusal::NoPort),
-    ),
-    Step::Traps(
-        1,
-        Action::Lock(0),
-        1,
-        Outcome::Refused(TrapRefusal::NoMutex),
-    ),
-    Step::Traps(
-        1,
-        Action::Unlock(0, 0),
-        1,
-        Outcome::Refused(TrapRefusal::NoMutex),
-    ),
-    Step::Traps(
-        1,
-        Action::Unlock(3, 0),
-        1,
-        Outcome::Refused(TrapRefusal::NoMutex),
-    ),
-    Step::Thread((
-        1,
-        "a",
-        Status::Running {
-            processor: 1,
-            used: 7,
-        },
-        10,
-        10,
-        1,
-        7,
-    )),
+    Step::Refuses(1, Action::Receive(0), 1, TrapRefusal::NoPort),
+    Step::Refuses(1, Action::Receive(3), 1, TrapRefusal::NoPort),
+    Step::Refuses(1, Action::Call(0, 7), 1, TrapRefusal::NoPort),
+    Step::Refuses(1, Action::Serve(0, 7), 1, TrapRefusal::NoPort),
+    Step::Refuses(1, Action::Lock(0), 1, TrapRefusal::NoMutex),
+    Step::Refuses(1, Action::Unlock(0, 0), 1, TrapRefusal::NoMutex),
+    Step::Refuses(1, Action::Unlock(3, 0), 1, TrapRefusal::NoMutex),
+    Step::Thread((1, "a", USED_7, 10, 10, 1, 7)),
 ];
 
 #[test]
@@ -560,12 +354,7 @@ const TWO_CLIENTS: &[Step<'static>] = &[
     Step::Wins(1, 0, (1, 0, 6000), Some(6)),
     Step::Traps(1, Action::Reply(1), 1, Outcome::Replied(2)),
     Step::Traps(1, Action::Reply(2), 1, Outcome::Replied(3)),
-    Step::Traps(
-        1,
-        Action::Reply(3),
-        1,
-        Outcome::Refused(TrapRefusal::NothingToReply),
-    ),
+    Step::Refuses(1, Action::Reply(3), 1, TrapRefusal::NothingToReply),
     Step::Traps(1, Action::Yield, 1, Outcome::Yielded),
     Step::Thread((1, "v", Status::Ready, 10, 250, 3, 6)),
     Step::Wins(1, 250, (2, 250, 5250), Some(1)),
@@ -655,25 +444,14 @@ fn compensations_of_threads(rt: HostRuntime) {
 const INVERTED: &[Step<'static>] = &[
     Step::Wins(1, 0, (1, 0, 200), None),
     Step::Traps(1, Action::Lock(1), 1, Outcome::Locked),
-    Step::Pauses(
-        Pause::Preempt(1, 0),
-        Reply::Expired {
-            thread: 1,
-            ticks: 0,
-        },
-    ),
+    Step::Expires(Pause::Preempt(1, 0), 1, 0),
     Step::Wins(1, 1, (2, 1, 200), None),
     Step::Traps(1, Action::Lock(1), 2, Outcome::Waits),
     Step::Value(1, 1),
     Step::Value(2, 0),
     Step::Wins(1, 99, (3, 99, 101), None),
     Step::Wins(2, 0, (1, 0, 1), None),
-    Step::Traps(
-        2,
-        Action::Unlock(1, 5),
-        1,
-        Outcome::Passed { to: 2, draw: None },
-    ),
+    Step::Passes(2, (1, 5), 1, 2, None),
     Step::Value(2, 99),
 ];
 

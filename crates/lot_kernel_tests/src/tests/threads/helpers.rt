@@ -2,13 +2,12 @@
 ghost use Rattle.std.specs.Prelude.{◌≡◌, Some, IsTrue, length};
 ghost use Rattle.lot_machine.specs.declared.ticket.Target.TheVariants.{Unfunded};
 ghost use Rattle.lot_machine.specs.Funding.{target_of};
-ghost use Rattle.lot_graph.specs.Graphs.{IsTarget};
 ghost use Rattle.lot_queues.specs.QueueLists.{IsThere, IsNowhere};
 ghost use Rattle.lot_value.specs.Changing.{CanTarget};
 ghost use Rattle.lot_threads.specs.Threaded.{IsLiveIn, funding_in};
 
+use crate::is_target;
 use lot_draw::Winner;
-use lot_graph::Graph;
 use lot_machine::{
     After, Limits, Name, Record, Status, Target, Thread, ThreadNumber, Ticket, TicketNumber,
 };
@@ -115,11 +114,6 @@ pub(crate) fn queues_of(rt: &impl Abort, alloc: Global, limits: &Limits) -> Queu
     made.expect(rt, "memory")
 }
 
-/// Ends the test, and shows the step, unless its result is the row's.
-pub(crate) fn check_step(rt: &impl Abort, number: usize, is_so: bool) {
-    assert!(rt; is_so, "step {number}");
-}
-
 /// Adds a thread funded with this much base.
 pub(crate) fn add_thread(rt: &impl Abort, threads: &mut Threads, queues: &mut Queues, amount: u32) {
     let made = threads.records().len();
@@ -171,17 +165,6 @@ fn may_fund(threads: &mut Threads, ticket: u32, target: Target) -> bool
         return false;
     }
     !threads.would_cycle(TicketNumber { number: ticket }, target)
-}
-
-/// Whether a ticket may fund the target, apart from cycles.
-fn is_target(graph: &Graph, target: Target) -> bool
-    ensures { IsTrue result → IsTarget graph.now.funding target }
-{
-    match target {
-        Target::Unfunded => false,
-        Target::Currency(currency) => 0 < currency && graph.is_currency(currency),
-        Target::Thread(thread) => 0 < thread && thread <= graph.threads(),
-    }
 }
 
 /// Lets the thread that made a trap go on, or sets the status with which it leaves.

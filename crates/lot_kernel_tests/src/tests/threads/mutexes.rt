@@ -7,9 +7,10 @@ ghost use Rattle.lot_mutex.specs.Listed.{owners_of};
 ghost use Rattle.lot_queues.specs.QueueLists.{IsThere};
 
 use super::helpers::{
-    Won, add_thread, check_known, check_live, check_may_wait, check_mutex, check_step, finish,
-    is_won, queues_of, stands, threads_of,
+    Won, add_thread, check_known, check_live, check_may_wait, check_mutex, finish, is_won,
+    queues_of, stands, threads_of,
 };
+use crate::tests::same::check_step;
 use lot_kept::Stack;
 use lot_machine::{Limits, MutexNumber, Outcome, Sizes, Status, ThreadNumber};
 use lot_mutex::{Lottery, are_waiting, have_same_owners, lock, pass_all_on, unlock};
@@ -26,6 +27,8 @@ enum Step {
     Lock(u32, u32, Outcome),
     /// An unlock by a thread of a mutex, with the number of its lottery, and the edges that it reads.
     Unlock(u32, u32, u128, Outcome, u64),
+    /// The same where the mutex passes to a thread, which wins with a number of a total.
+    Passes(u32, u32, u128, (u32, u64, u64), u64),
     /// Passes on the mutexes of a thread.
     PassAllOn(u32),
     /// The result of a draw.
@@ -167,6 +170,12 @@ fn pass_on_from(rt: &impl Abort, scene: &mut Scene, owner: u32) {
     pass_all_on(threads, queues, owner)
 }
 
+/// The outcome of an unlock that passes the mutex to this thread, which wins with this number of this total.
+fn passed((to, number, total): (u32, u64, u64)) -> Outcome {
+    let draw = Some((number, total));
+    Outcome::Passed { to, draw }
+}
+
 /// Takes a step, and returns whether its result is the row's.
 fn take(rt: &impl Abort, scene: &mut Scene, step: Step) -> bool {
     match step {
@@ -177,6 +186,9 @@ fn take(rt: &impl Abort, scene: &mut Scene, step: Step) -> bool {
         Step::Lock(thread, mutex, outcome) => locks(rt, scene, thread, mutex, outcome),
         Step::Unlock(owner, mutex, d, outcome, reads) => {
             unlocks(rt, scene, (owner, mutex), d, (outcome, reads))
+        }
+        Step::Passes(owner, mutex, d, won, reads) => {
+            unlocks(rt, scene, (owner, mutex), d, (passed(won), reads))
         }
         Step::PassAllOn(owner) => {
             pass_on_from(rt, scene, owner);
@@ -237,31 +249,13 @@ const PASSED: &[Step] = &[
     Step::Lock(2, 1, Outcome::Waits),
     Step::Stands(2, Status::Waiting(1)),
     Step::Wins(110, (1, 110, 111)),
-    Step::Unlock(
-        1,
-        1,
-        105,
-        Outcome::Passed {
-            to: 2,
-            draw: Some((105, 110)),
-        },
-        0,
-    ),
+    Step::Passes(1, 1, 105, (2, 105, 110), 0),
     Step::Owner(1, Some(2)),
     Step::Stands(1, Status::Ready),
     Step::Stands(2, Status::Ready),
     Step::Stands(3, Status::Waiting(1)),
     Step::Wins(110, (2, 110, 111)),
-    Step::Unlock(
-        2,
-        1,
-        110,
-        Outcome::Passed {
-            to: 3,
-            draw: Some((10, 100)),
-        },
-        0,
-    ),
+    Step::Passes(2, 1, 110, (3, 10, 100), 0),
     Step::Wins(110, (3, 110, 111)),
     Step::Unlock(3, 1, 0, Outcome::Freed, 0),
     Step::Owner(1, None),
@@ -303,16 +297,7 @@ const UNSETTLED: &[Step] = &[
     Step::AddThread(10),
     Step::Lock(1, 2, Outcome::Locked),
     Step::Lock(2, 2, Outcome::Waits),
-    Step::Unlock(
-        1,
-        2,
-        3,
-        Outcome::Passed {
-            to: 2,
-            draw: Some((3, 10)),
-        },
-        4,
-    ),
+    Step::Passes(1, 2, 3, (2, 3, 10), 4),
 ];
 
 // An unlock reads the edges into stale nodes before its lottery: two tickets, the lend and the owner.

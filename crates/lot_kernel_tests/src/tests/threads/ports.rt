@@ -1,8 +1,9 @@
 //! Calls, receives and replies among a few threads, with their lends.
 use super::helpers::{
-    Won, add_thread, check_known, check_live, check_may_wait, check_port, check_step, finish,
-    is_won, queues_of, stands, threads_of,
+    Won, add_thread, check_known, check_live, check_may_wait, check_port, finish, is_won,
+    queues_of, stands, threads_of,
 };
+use crate::tests::same::check_step;
 use lot_machine::{Limits, Outcome, PortNumber, Sizes, Status, ThreadNumber};
 use lot_ports::{call, receive, release_clients, reply, serve};
 use lot_queues::Queues;
@@ -210,6 +211,18 @@ fn a_server_waits(rt: HostRuntime) {
     play(&rt, rt.alloc(), small_limits(), RECEIVED_FIRST)
 }
 
+/// Call 5 of thread 2.
+const FROM_2: Outcome = Outcome::Received {
+    client: 2,
+    number: 5,
+};
+
+/// Call 6 of thread 3.
+const FROM_3: Outcome = Outcome::Received {
+    client: 3,
+    number: 6,
+};
+
 const QUEUED_FIRST: &[Step] = &[
     Step::AddThread(1),
     Step::AddThread(10),
@@ -218,24 +231,10 @@ const QUEUED_FIRST: &[Step] = &[
     Step::Call(3, 2, 6, Outcome::Queued),
     Step::Stands(2, Status::Queued(2)),
     Step::Wins(8, (1, 0, 1)),
-    Step::Receive(
-        1,
-        2,
-        Outcome::Received {
-            client: 2,
-            number: 5,
-        },
-    ),
+    Step::Receive(1, 2, FROM_2),
     Step::Stands(2, Status::Served(1)),
     Step::Wins(10, (1, 10, 11)),
-    Step::Receive(
-        1,
-        2,
-        Outcome::Received {
-            client: 3,
-            number: 6,
-        },
-    ),
+    Step::Receive(1, 2, FROM_3),
     Step::Wins(110, (1, 110, 111)),
     Step::Receive(1, 1, Outcome::Waits),
     Step::Reply(1, 4, Some(Outcome::Replied(2))),
@@ -289,14 +288,7 @@ const RELEASED: &[Step] = &[
     Step::Receive(1, 1, Outcome::Waits),
     Step::Call(2, 1, 5, Outcome::ServedBy(1)),
     Step::Call(3, 1, 6, Outcome::Queued),
-    Step::Receive(
-        1,
-        1,
-        Outcome::Received {
-            client: 3,
-            number: 6,
-        },
-    ),
+    Step::Receive(1, 1, FROM_3),
     Step::Wins(110, (1, 110, 111)),
     Step::Release(1),
     Step::Stands(2, Status::Ready),

@@ -2,8 +2,8 @@
 ghost use Rattle.std.specs.Prelude.{IsTrue};
 ghost use Rattle.lot_graph.specs.Graphs.{IsNode, IsNodeOf};
 
-use super::helpers::{Won, check_live, check_step, fund, is_won, threads_of};
-use crate::tests::same::check_same;
+use super::helpers::{Won, check_live, fund, is_won, threads_of};
+use crate::tests::same::{check_same, check_step};
 use lot_draw::Winner;
 use lot_graph::Graph;
 use lot_machine::{
