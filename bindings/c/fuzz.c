@@ -1057,7 +1057,8 @@ static lot_reply reply_to_no_number(const struct view *view, const lot_event *ev
 
 // Whether what a command by number refers to is there and has a name.
 static bool has_name(const struct view *view, const lot_event *event) {
-    return is_number_there(view, event) && (!kinds_of_events[event->kind].of_thread || known.names[event->object].length != 0);
+    return is_number_there(view, event) &&
+           (!kinds_of_events[event->kind].of_thread || known.names[event->object].length != 0);
 }
 
 // The same command by name, if what has the number is there and has a name; otherwise the event itself.

@@ -25,7 +25,8 @@ def header(rows):
     """The header."""
     sorts = "\n".join(f"using {it} = Number<struct {it}Sort>;" for it in TYPES.values())
     functions = "\n".join(function(row) for row in rows["event_number"])
-    return f"""// lot.hpp: the events of lot.h, with a type for each sort of number, so that swapped handles don't compile. For C++11
+    return f"""\
+// lot.hpp: the events of lot.h, with a type for each sort of number, so that swapped handles don't compile. For C++11
 // and later. It is a header alone, and needs the same archive. Ticks and amounts are plain numbers.
 // {MADE}
 //
