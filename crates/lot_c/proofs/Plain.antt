@@ -4,12 +4,13 @@ use Rattle.lot_machine.specs.declared.trap.Trap.TheVariants as action
 use Rattle.std.specs.Prelude.{All, Err, Result}
 use Rattle.lot_machine.specs.Arguments.{Value}
 use Rattle.lot_machine.specs.Arguments as value
-use Rattle.lot_machine.specs.Verbs.{command_from, form, parts, values_given, with_rest, ◌>>=◌}
+use Rattle.lot_machine.specs.Commands.{command_from, form, parts}
+use Rattle.lot_machine.specs.Verbs.{values_given, with_rest, ◌>>=◌}
 use Rattle.lot_machine.specs.declared.command.Command.{Command}
 use Rattle.lot_machine.specs.declared.command.Command.TheVariants as command
-use Rattle.lot_machine.specs.declared.verb.Slot.{Slot}
-use Rattle.lot_machine.specs.declared.verb.Verb.{Verb}
-use Rattle.lot_machine.specs.declared.verb.Verb.TheVariants as verb
+use Rattle.lot_machine.specs.declared.arguments.Slot.{Slot}
+use Rattle.lot_machine.specs.declared.command.Verb.{Verb}
+use Rattle.lot_machine.specs.declared.command.Verb.TheVariants as verb
 use Rattle.lot_machine.specs.declared.event.Event.TheVariants as event
 use Rattle.lot_machine.specs.declared.reference.CurrencyRef.TheVariants as currency_ref
 use Rattle.lot_machine.specs.declared.reference.ThreadRef.TheVariants as thread_ref

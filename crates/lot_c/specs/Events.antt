@@ -14,10 +14,10 @@ use Rattle.lot_machine.specs.declared.reference.ThreadRef.TheVariants as thread_
 use Rattle.lot_machine.specs.declared.reference.TargetRef.{TargetRef}
 use Rattle.lot_machine.specs.declared.reference.TargetRef.TheVariants as target_ref
 use Rattle.lot_machine.specs.declared.sizes.Sizes.{Sizes}
-use Rattle.lot_machine.specs.declared.verb.Slot.{Slot}
-use Rattle.lot_machine.specs.declared.verb.Slot.TheVariants as slot
-use Rattle.lot_machine.specs.declared.verb.Verb.{Verb}
-use Rattle.lot_machine.specs.declared.verb.Verb.TheVariants as verb
+use Rattle.lot_machine.specs.declared.arguments.Slot.{Slot}
+use Rattle.lot_machine.specs.declared.arguments.Slot.TheVariants as slot
+use Rattle.lot_machine.specs.declared.command.Verb.{Verb}
+use Rattle.lot_machine.specs.declared.command.Verb.TheVariants as verb
 use Rattle.lot_c.specs.declared.event.PlainEvent.{PlainEvent}
 use Rattle.lot_c.specs.declared.kind.EventKind.{EventKind}
 use Rattle.lot_c.specs.declared.kind.EventKind.TheVariants as kind

@@ -28,8 +28,8 @@ use Rattle.lot_machine.specs.declared.reply.Reply.TheVariants as reply
 use Rattle.lot_machine.specs.declared.ticket.Target.{Target}
 use Rattle.lot_machine.specs.declared.ticket.Target.TheVariants as target
 use Rattle.lot_machine.specs.declared.trap.Trap.TheVariants as trap
-use Rattle.lot_machine.specs.declared.verb.Verb.{Verb}
-use Rattle.lot_machine.specs.declared.verb.Verb.TheVariants as verb
+use Rattle.lot_machine.specs.declared.command.Verb.{Verb}
+use Rattle.lot_machine.specs.declared.command.Verb.TheVariants as verb
 use Rattle.lot_c.specs.declared.kind.EventKind.{EventKind}
 use Rattle.lot_c.specs.declared.kind.EventKind.TheVariants as kind
 use Rattle.lot_c.specs.declared.kind.Reference.{Reference}

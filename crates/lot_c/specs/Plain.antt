@@ -3,8 +3,7 @@ use Rattle.std.specs.Prelude.{◌≡◌, ◌≤◌, ℕ, List, [], ◌∷◌, Al
 use Rattle.lot_machine.specs.Actions.{Action, object_of, with_numbers}
 use Rattle.lot_machine.specs.Arguments.{Value}
 use Rattle.lot_machine.specs.Arguments as value
-use Rattle.lot_machine.specs.Commands.{is_name, is_thread_name}
-use Rattle.lot_machine.specs.Verbs.{parts}
+use Rattle.lot_machine.specs.Commands.{is_name, is_thread_name, parts}
 use Rattle.lot_machine.specs.declared.command.Command.{Command}
 use Rattle.lot_machine.specs.declared.event.Event.{Event}
 use Rattle.lot_machine.specs.declared.event.Event.TheVariants as event
@@ -13,8 +12,8 @@ use Rattle.lot_machine.specs.declared.reference.ThreadRef.TheVariants as thread_
 use Rattle.lot_machine.specs.declared.reference.TargetRef.TheVariants as target_ref
 use Rattle.lot_machine.specs.declared.sizes.Sizes.{Sizes}
 use Rattle.lot_machine.specs.declared.trap.Trap.TheVariants as trap
-use Rattle.lot_machine.specs.declared.verb.Verb.{Verb}
-use Rattle.lot_machine.specs.declared.verb.Verb.TheVariants as verb
+use Rattle.lot_machine.specs.declared.command.Verb.{Verb}
+use Rattle.lot_machine.specs.declared.command.Verb.TheVariants as verb
 use Rattle.lot_c.specs.declared.event.PlainEvent.{PlainEvent}
 use Rattle.lot_c.specs.declared.kind.EventKind.{EventKind}
 use Rattle.lot_c.specs.declared.kind.EventKind.TheVariants as kind

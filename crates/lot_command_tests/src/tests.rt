@@ -14,13 +14,20 @@ use inputs::on_standard;
 use lot_command::{Inputs, status, unread_status};
 use lot_io::{IoFault, Watched};
 use lot_system::{Played, play};
+use refused::FIRST_FAULTS;
+use runs::RUNS;
 use same::{check_same, check_same_at};
+use shown::{
+    EXPLAINED_CALLS, NO_SEEDS, NOT_OF_PLAYS, OTHER_CALLS, REFUSED_OPTIONS, REFUSED_SEEDS,
+    REPORT_TABLES, SEVERAL_PLAYS, TABLES,
+};
 use std::alloc::Global;
 use std::io;
 use std::io::{ErrorKind, Read, Write};
 use std::process::Abort;
 use std::sync::Wait;
 use std::thread::Threads;
+use timed::{REFUSED_SLEEPS, SLEEPERS_IN_TIME, TURNS_IN_TIME};
 use told::VIEWS;
 
 /// Two threads that compute, with base tickets of 10 and 5.
@@ -45,7 +52,7 @@ fn check_play<H: Abort + Threads + Wait + Sync>(
     code: u8,
     expected: &str,
 ) {
-    check_words_on(rt, alloc, "play", input, code, expected);
+    check_output_of(rt, alloc, &["lot_sim", "play"], input, code, expected);
 }
 
 /// The result of a call of the program: its exit status, and the text on each output.
@@ -99,18 +106,6 @@ fn ended_of<H: Threads + Wait + Sync, I: Inputs>(
         output,
         errors,
     }
-}
-
-/// Plays or runs the input, and compares the exit status and the output.
-fn check_words_on<H: Abort + Threads + Wait + Sync>(
-    rt: &H,
-    alloc: Global,
-    word: &str,
-    input: &str,
-    code: u8,
-    expected: &str,
-) {
-    check_output_of(rt, alloc, &["lot_sim", word], input, code, expected);
 }
 
 /// Calls the program with these words and this input, and compares the exit status and the output. There must be a
@@ -169,10 +164,12 @@ fn joined(rt: &impl Abort, alloc: Global, front: &str, rest: &str) -> String {
     format!(in alloc; "{front}{rest}").expect(rt, "memory")
 }
 
-#[test]
-fn two_threads(rt: HostRuntime) {
-    let schedule = "schedule 0 0 0 0 0 0 1 1 1 1 1 1\n";
-    let output = "1 draw 9 of 15 thread 1
+/// Headers, schedules, and the outputs after the lines of the commands of the two threads.
+const TWO_SPINNERS: &[(&str, &str, &str)] = &[
+    (
+        "lottery 1\n",
+        "schedule 0 0 0 0 0 0 1 1 1 1 1 1\n",
+        "1 draw 9 of 15 thread 1
 1 thread 1 ticks 100 expire
 1 draw 4 of 15 thread 1
 1 thread 1 ticks 100 expire
@@ -183,13 +180,14 @@ thread 1 a quanta 2 ticks 200
 thread 2 b quanta 1 ticks 100
 processor 1 quanta 3 idle 0 ticks 300
 total turns 12 quanta 3 ticks 300
-";
-    check_spinners(&rt, rt.alloc(), "lottery 1\n", schedule, output);
-}
+",
+    ),
+    ("lottery 2\n", "schedule 0 0 0 0 0 0 1 1\n", FINER_TURN),
+    ("lottery 2\n", "runs 0 6 1 2\n", FINER_TURN),
+];
 
-#[test]
-fn finer_values(rt: HostRuntime) {
-    let output = "1 draw 2724 of 3840 thread 2
+/// One turn, with finer values.
+const FINER_TURN: &str = "1 draw 2724 of 3840 thread 2
 1 thread 2 ticks 100 expire
 report
 thread 1 a quanta 0 ticks 0
@@ -197,9 +195,12 @@ thread 2 b quanta 1 ticks 100
 processor 1 quanta 1 idle 0 ticks 100
 total turns 8 quanta 1 ticks 100
 ";
-    let schedule = "schedule 0 0 0 0 0 0 1 1\n";
-    check_spinners(&rt, rt.alloc(), "lottery 2\n", schedule, output);
-    check_spinners(&rt, rt.alloc(), "lottery 2\n", "runs 0 6 1 2\n", output);
+
+#[test]
+fn spinners(rt: HostRuntime) {
+    for (header, schedule, output) in TWO_SPINNERS {
+        check_spinners(&rt, rt.alloc(), header, schedule, output);
+    }
 }
 
 /// Nothing to do.
@@ -439,8 +440,8 @@ processor 1 quanta 3 idle 0 ticks 4
 total turns 11 quanta 3 ticks 4
 ";
 
-/// Inputs, and the outputs of their plays.
-static PLAYS: [(&str, &str); 13] = [
+/// Inputs whose commands are played, and the outputs of their plays.
+const PLAYS_OF_COMMANDS: &[(&str, &str)] = &[
     ("lottery 1", EMPTY_REPORT),
     ("lottery 1\n", EMPTY_REPORT),
     (ENDING, ENDED),
@@ -448,6 +449,10 @@ static PLAYS: [(&str, &str); 13] = [
     (REFUSED_COMMANDS, COMMANDS_REFUSED),
     ("lottery 1\nlstkt\n", EMPTY_REPORT),
     (CURRENCY_GRAPH, CURRENCY_LISTINGS),
+];
+
+/// Inputs with scripts, and the outputs of their plays.
+const PLAYS_OF_SCRIPTS: &[(&str, &str)] = &[
     (CALL_AND_REPLY, CALL_AND_REPLY_PLAYED),
     (LOOP_IN_TWO, LOOP_IN_TWO_PLAYED),
     (LOOP_IN_ONE, LOOP_IN_ONE_PLAYED),
@@ -456,79 +461,90 @@ static PLAYS: [(&str, &str); 13] = [
     (CHAIN_OF_LENDS, CHAIN_OF_LENDS_PLAYED),
 ];
 
-#[test]
-fn played(rt: HostRuntime) {
-    check_plays(&rt, rt.alloc(), 0, &PLAYS);
-}
-
-/// The front of a call and its reply, up to the first line of the server's script.
-const CALL: &str = "lottery 1\nquantum 10\nport p\nscript srv\n";
-
-/// The front of a script, up to its first line.
-const SCRIPT: &str = "lottery 1\nscript s\n";
-
-/// The front of an input and its rest, and the output of its play.
-const REFUSED: &[(&str, &str, &str)] = &[
-    ("", "", "refused line 1 50 BadHeader\n"),
-    (SCRIPT, "compute 5\n", "refused line 2 54 OpenScript\n"),
+/// Refused inputs, and the outputs of their plays.
+const REFUSED: &[(&str, &str)] = &[
+    ("", "refused line 1 50 BadHeader\n"),
     (
-        SCRIPT,
-        "loop 1\nloop 1\nloop 1\nloop 1\nloop 1\nloop 1\nloop 1\nloop 1\nloop 1\n",
+        "lottery 1\nscript s\ncompute 5\n",
+        "refused line 2 54 OpenScript\n",
+    ),
+    (
+        "lottery 1\nscript s\nloop 1\nloop 1\nloop 1\nloop 1\nloop 1\nloop 1\nloop 1\nloop 1\nloop 1\n",
         "refused line 11 55 TooDeep\n",
     ),
+    ("lottery 1\nschedule 0 2\n", "refused line 2 57 BadActor\n"),
     (
-        "lottery 1\n",
-        "schedule 0 2\n",
-        "refused line 2 57 BadActor\n",
+        "lottery 1\nquantum 10\nport p\nscript srv\nreceive p\n",
+        "refused line 4 54 OpenScript\n",
     ),
-    (CALL, "receive p\n", "refused line 4 54 OpenScript\n"),
-    (CALL, "recei", "refused line 5 51 BadLine\n"),
-    (CALL, "receive", "refused line 5 51 BadLine\n"),
     (
-        "lottery 1\n",
-        "mktkt 007 base\n",
+        "lottery 1\nquantum 10\nport p\nscript srv\nrecei",
+        "refused line 5 51 BadLine\n",
+    ),
+    (
+        "lottery 1\nquantum 10\nport p\nscript srv\nreceive",
+        "refused line 5 51 BadLine\n",
+    ),
+    (
+        "lottery 1\nmktkt 007 base\n",
         "refused line 2 52 BadNumber\n",
     ),
     (
-        "lottery 1\n",
-        "quantum 10\nprocessors 2\n",
+        "lottery 1\nquantum 10\nprocessors 2\n",
         "refused line 3 50 BadHeader\n",
     ),
     (
-        "lottery 1\n",
-        "schedule 0\nseed 1\n",
+        "lottery 1\nschedule 0\nseed 1\n",
         "refused line 3 50 BadHeader\n",
     ),
-    ("lottery 1\n", "seed 1 2\n", "refused line 2 51 BadLine\n"),
-    (SCRIPT, "call q\n", "refused line 3 53 UnknownName\n"),
-    ("lottery 3\n", "", "refused line 1 50 BadHeader\n"),
-    ("lottery 2\n", "runs 0\n", "refused line 2 51 BadLine\n"),
-    ("lottery 2\n", "runs 0 0\n", "refused line 2 52 BadNumber\n"),
-    ("lottery 2\n", "runs 2 1\n", "refused line 2 57 BadActor\n"),
+    ("lottery 1\nseed 1 2\n", "refused line 2 51 BadLine\n"),
     (
-        "lottery 2\n",
-        "runs 0 1000000 0 1\n",
+        "lottery 1\nscript s\ncall q\n",
+        "refused line 3 53 UnknownName\n",
+    ),
+    ("lottery 3\n", "refused line 1 50 BadHeader\n"),
+    ("lottery 2\nruns 0\n", "refused line 2 51 BadLine\n"),
+    ("lottery 2\nruns 0 0\n", "refused line 2 52 BadNumber\n"),
+    ("lottery 2\nruns 2 1\n", "refused line 2 57 BadActor\n"),
+    (
+        "lottery 2\nruns 0 1000000 0 1\n",
         "refused line 2 56 TooLong\n",
     ),
-    ("lottery 1\n", "runs 0 1\n", "refused line 2 51 BadLine\n"),
+    ("lottery 1\nruns 0 1\n", "refused line 2 51 BadLine\n"),
 ];
 
+/// An input that is strict, and its play without a refusal.
+const STRICTLY: &[(&str, &str)] = &[(
+    "lottery 3\nfor 10\nstrict\n",
+    "0 1 idle
+report
+processor 1 quanta 0 idle 1 ticks 0 unused 10
+total turns 1 quanta 0 ticks 0 refused 0 left 0
+",
+)];
+
 #[test]
-fn refused_inputs(rt: HostRuntime) {
-    for (front, rest, refusal) in REFUSED {
-        check_refused(&rt, rt.alloc(), (front, rest), refusal);
-    }
+fn plays_of_commands(rt: HostRuntime) {
+    check_plays(&rt, rt.alloc(), 0, PLAYS_OF_COMMANDS)
 }
 
-/// Plays an input of this front and this rest, which is refused.
-fn check_refused<H: Abort + Threads + Wait + Sync>(
-    rt: &H,
-    alloc: Global,
-    (front, rest): (&str, &str),
-    refusal: &str,
-) {
-    let input = joined(rt, alloc, front, rest);
-    check_play(rt, alloc, input.as_str(), 1, refusal);
+#[test]
+fn plays_of_scripts(rt: HostRuntime) {
+    check_plays(&rt, rt.alloc(), 0, PLAYS_OF_SCRIPTS)
+}
+
+#[test]
+fn plays_in_time(rt: HostRuntime) {
+    check_plays(&rt, rt.alloc(), 0, STRICTLY);
+    check_plays(&rt, rt.alloc(), 0, TURNS_IN_TIME);
+    check_plays(&rt, rt.alloc(), 0, SLEEPERS_IN_TIME)
+}
+
+#[test]
+fn refused_plays(rt: HostRuntime) {
+    check_plays(&rt, rt.alloc(), 1, REFUSED);
+    check_plays(&rt, rt.alloc(), 1, REFUSED_SLEEPS);
+    check_plays(&rt, rt.alloc(), 1, FIRST_FAULTS)
 }
 
 #[test]
@@ -584,18 +600,6 @@ fn strict_end<H: Threads + Wait + Sync>(rt: &H, alloc: Global, words: &[&str]) -
     (ended.code, ended.errors.is_empty())
 }
 
-/// Without a refusal the status of a strict play is 0.
-#[test]
-fn strict_input_without_refusals(rt: HostRuntime) {
-    let input = "lottery 3\nfor 10\nstrict\n";
-    let output = "0 1 idle
-report
-processor 1 quanta 0 idle 1 ticks 0 unused 10
-total turns 1 quanta 0 ticks 0 refused 0 left 0
-";
-    check_play(&rt, rt.alloc(), input, 0, output);
-}
-
 /// Checks the exit status of these words, and which output got a text.
 fn check_words<H: Abort + Threads + Wait + Sync>(
     rt: &H,
@@ -628,69 +632,44 @@ const REFUSED_WORDS: &[&[&str]] = &[
     &["lot_sim", "run", "x", "y"],
 ];
 
+/// Words that the program refuses, in groups.
+const ALL_REFUSED_WORDS: &[&[&[&str]]] = &[
+    REFUSED_WORDS,
+    NOT_OF_PLAYS,
+    NO_SEEDS,
+    REFUSED_OPTIONS,
+    REFUSED_SEEDS,
+];
+
 #[test]
 fn command_lines(rt: HostRuntime) {
-    check_refused_words(&rt, rt.alloc(), REFUSED_WORDS);
+    for rows in ALL_REFUSED_WORDS {
+        check_refused_words(&rt, rt.alloc(), rows);
+    }
     check_words(&rt, rt.alloc(), &["lot_sim", "--help"], 0, true);
+}
+
+/// Calls, in groups.
+const CALLS: &[&[Row]] = &[
+    TABLES,
+    REPORT_TABLES,
+    SEVERAL_PLAYS,
+    OTHER_CALLS,
+    EXPLAINED_CALLS,
+    RUNS,
+];
+
+#[test]
+fn calls(rt: HostRuntime) {
+    for rows in CALLS {
+        check_rows(&rt, rt.alloc(), rows);
+    }
 }
 
 #[test]
 fn version(rt: HostRuntime) {
     let ended = ended_on(&rt, rt.alloc(), &["lot_sim", "--version"], "");
     check_same(&rt, &ended.found("lot_sim 0.4.0\n"), &(0, true, false));
-}
-
-/// Refused words, and their diagnostics up to the line that says how to get help.
-const TOLD_OF_WORDS: &[(&[&str], &str)] = &[
-    (
-        &["lot_sim", "x.lot"],
-        "error: unrecognized subcommand 'x.lot'
-
-  tip: 'lot_sim play x.lot' plays a file of this name
-
-Usage: lot_sim <COMMAND>
-",
-    ),
-    (
-        &["lot_sim", "play", "--csv"],
-        "error: unexpected argument '--csv' found
-
-  tip: 'report' has it: 'lot_sim report --csv'
-
-Usage: lot_sim play [OPTIONS] [FILE]
-",
-    ),
-    (
-        &["lot_sim", "shares", "x.lot", "--by=currency"],
-        "error: unexpected argument '--by' found
-
-  tip: 'chart' has it: 'lot_sim chart --by'
-
-Usage: lot_sim shares [OPTIONS] [FILE]
-",
-    ),
-    (
-        &["lot_sim", "chart", "-o", "x.svg"],
-        "error: unexpected argument '-o' found
-
-Usage: lot_sim chart [OPTIONS] [FILE]
-",
-    ),
-];
-
-#[test]
-fn told_of_words(rt: HostRuntime) {
-    for (words, text) in TOLD_OF_WORDS {
-        let ended = ended_on(&rt, rt.alloc(), words, "");
-        let help = "\nFor more information, try '--help'.\n";
-        let expected = joined(&rt, rt.alloc(), text, help);
-        check_same_at(
-            &rt,
-            words,
-            &(ended.code, ended.told()),
-            &(2, expected.as_str()),
-        );
-    }
 }
 
 /// A word that isn't UTF-8 gives status 2, like a wrong word, and out of memory 3.

@@ -6,6 +6,7 @@
 
 mod limit;
 mod lines;
+mod message;
 mod notes;
 mod reason;
 mod refusals;

@@ -1,6 +1,7 @@
 //! Reasons why a run of a timed input shows less than its author may expect.
 
-use crate::lines::{InputCommand, Location, has_header_line, header_number, is_timed};
+use crate::lines::{InputCommand, has_header_line, header_number, is_timed};
+use crate::message::{Message, Part};
 use lot_machine::Verb;
 use lot_simulation::{BodyWord, HeaderWord};
 use std::io;
@@ -52,11 +53,8 @@ pub fn write_no_thread<W: Write>(
     if !is_timed(input) || has_thread(input) {
         return Ok(());
     }
-    let place = Location { file, line: None };
-    writeln!(
-        writer,
-        "{place}nothing runs: no line makes a thread, as 'fundx AMOUNT CURRENCY NAME SCRIPT' does"
-    )
+    let text = "nothing runs: no line makes a thread, as 'fundx AMOUNT CURRENCY NAME SCRIPT' does";
+    Message::new(text, &[]).write(writer, file, None)
 }
 
 /// Whether the input has a command that makes a thread.
@@ -70,11 +68,9 @@ fn write_no_turns<W: Write>(writer: &mut W, input: &[u8], file: Option<&str>) ->
     if has_header_line(input, HeaderWord::Turns) {
         return Ok(());
     }
-    let place = Location { file, line: None };
-    writeln!(
-        writer,
-        "{place}the processors make no turns: the header has no 'turns T', how many each makes in a run"
-    )
+    let text =
+        "the processors make no turns: the header has no 'turns T', how many each makes in a run";
+    Message::new(text, &[]).write(writer, file, None)
 }
 
 /// Writes that a run of this many ticks is shorter than the input's quantum, if it is.
@@ -88,11 +84,13 @@ fn write_short<W: Write>(
     if quantum <= duration {
         return Ok(());
     }
-    let place = Location { file, line: None };
-    writeln!(
-        writer,
-        "{place}the run of {duration} ticks is shorter than a quantum of {quantum}, whose ticks count when it is over"
-    )
+    let parts = [
+        Part::Number(u64::from(duration)),
+        Part::Number(u64::from(quantum)),
+    ];
+    let text =
+        "the run of {} ticks is shorter than a quantum of {}, whose ticks count when it is over";
+    Message::new(text, &parts).write(writer, file, None)
 }
 
 /// Writes that the view begins at the end of the run or after it, if it does.
@@ -102,12 +100,12 @@ fn write_beginning<W: Write>(
     from: Option<u64>,
     file: Option<&str>,
 ) -> io::Result<()> {
-    let place = Location { file, line: None };
+    let end = u64::from(end);
     match from {
-        Some(from) if u64::from(end) <= from => writeln!(
-            writer,
-            "{place}nothing is left to show: '--from {from}' isn't before the end of the run at {end}"
-        ),
+        Some(from) if end <= from => {
+            let text = "nothing is left to show: '--from {}' isn't before the end of the run at {}";
+            Message::new(text, &[Part::Number(from), Part::Number(end)]).write(writer, file, None)
+        }
         _ => Ok(()),
     }
 }

@@ -1,71 +1,40 @@
 //! The reasons why commands are refused.
 
-use crate::limit::UsedUp;
+use crate::limit::limit_message;
 use crate::lines::{InputCommand, Named, Nearest, nearest_name};
+use crate::message::{Message, Part};
 use lot_machine::{Refusal, Verb, is_good_name};
 use lot_simulation::{BodyWord, RefusedCommand};
 use std::alloc::Global;
-use std::fmt;
 
-/// The reason why a command is refused.
-#[derive(Clone, Copy)]
-pub(crate) struct Reason<'a> {
+/// The reason for the refusal of this command of the input, among these refusals.
+pub(crate) fn reason_message<'a>(
+    alloc: Global,
+    input: &'a [u8],
+    command: InputCommand<'a>,
     refusal: Refusal,
-    /// The word of the command at fault, or no text if no single word is.
-    word: &'a str,
-    /// The name nearest to the word, if nothing has the word as its name.
-    nearest: Nearest<'a>,
-    /// The limit reached, if one is.
-    used_up: Option<UsedUp>,
-}
-
-impl<'a> Reason<'a> {
-    /// The reason for the refusal of this command of the input, among these refusals.
-    pub(crate) fn of(
-        alloc: Global,
-        input: &'a [u8],
-        command: InputCommand<'a>,
-        refusal: Refusal,
-        refused: &[RefusedCommand],
-    ) -> Reason<'a> {
-        let word = match argument_of(refusal) {
-            Some(name) => command.argument(name).unwrap_or(""),
-            None => "",
-        };
-        let used_up = match refusal {
-            Refusal::Full => Some(UsedUp::of(input, command, refused)),
-            _ => None,
-        };
-        Reason {
-            refusal,
-            word,
-            nearest: nearest_made(alloc, input, refusal, word),
-            used_up,
-        }
+    refused: &[RefusedCommand],
+) -> Message<'a> {
+    if refusal == Refusal::Full {
+        return limit_message(input, command, refused);
     }
-}
-
-impl fmt::Display for Reason<'_> {
-    fn fmt<W: fmt::Write>(&self, f: &mut fmt::Formatter<W>) -> fmt::Result {
-        let Reason {
-            refusal,
-            word,
-            nearest,
-            used_up,
-        } = *self;
-        if let Some(used_up) = used_up {
-            return write!(f, "{used_up}");
-        }
-        if refusal == Refusal::NoTicket && is_good_name(word.as_bytes()) {
-            return write!(f, "no ticket has the name '{word}' now");
-        }
-        f.write_str(text_of(refusal))?;
-        match refusal {
-            _ if word.is_empty() => Ok(()),
-            Refusal::NoTicket | Refusal::BadAmount => write!(f, " {word}"),
-            _ => write!(f, " '{word}'{nearest}"),
-        }
+    let word = match argument_of(refusal) {
+        Some(name) => command.argument(name).unwrap_or(""),
+        None => "",
+    };
+    if refusal == Refusal::NoTicket && is_good_name(word.as_bytes()) {
+        return Message::new("no ticket has the name '{}' now", &[Part::Text(word)]);
     }
+    let text = match refusal {
+        _ if word.is_empty() => "{}",
+        Refusal::NoTicket | Refusal::BadAmount => "{} {}",
+        _ => "{} '{}'{}",
+    };
+    let nearest = Part::Nearest(nearest_made(alloc, input, refusal, word));
+    Message::new(
+        text,
+        &[Part::Text(text_of(refusal)), Part::Text(word), nearest],
+    )
 }
 
 /// The name of the argument at fault, if one is.

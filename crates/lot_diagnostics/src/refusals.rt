@@ -3,9 +3,9 @@
 //! For a refused input the output is one line for programs, with the line's number and a refusal. These words go to
 //! standard error. Contracts say of some problems that a caller never skips their lines. Otherwise the proofs show only
 //! safety and termination; the tests of `lot_system_tests` check the text.
+mod bytes;
 mod explain;
 mod header;
-mod hint;
 mod input;
 mod number;
 mod phrases;
@@ -13,7 +13,6 @@ mod problem;
 mod skip;
 mod word;
 
-use crate::lines::Location;
 use crate::refusals::explain::problem_of;
 use crate::refusals::input::Refused;
 use crate::refusals::skip::can_be_skipped;
@@ -34,8 +33,7 @@ pub fn write_words<W: Write>(
 ) -> io::Result<()> {
     let refused = Refused::of(input, fault.line);
     let problem = problem_of(alloc, &refused, fault.refusal);
-    let line = Some(fault.line);
-    writeln!(writer, "{}{problem}", Location { file, line })
+    problem.message.write(writer, file, Some(fault.line))
 }
 
 /// The index in the input of the first byte of the line refused with this fault, if the line can be skipped: its fault
@@ -56,7 +54,7 @@ pub fn write_words<W: Write>(
 pub fn line_to_skip(alloc: Global, input: &[u8], fault: InputFault) -> Option<usize> {
     let refused = Refused::of(input, fault.line);
     let problem = problem_of(alloc, &refused, fault.refusal);
-    if can_be_skipped(alloc, &refused, problem) {
+    if can_be_skipped(alloc, &refused, problem.cause) {
         Some(refused.before.len())
     } else {
         None

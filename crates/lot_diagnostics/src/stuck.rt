@@ -1,115 +1,88 @@
 //! Threads that can never run again.
 
 use crate::lines::{Named, name_numbered};
+use crate::message::{Message, Part};
 use lot_machine::{Name, Status};
 use lot_simulation::{BodyWord, Lack, Owner, StuckThread};
-use std::{fmt, str};
+use std::str;
 
-/// A thread, a port or a mutex: its kind and its name, or its number if it has no name.
-#[derive(Clone, Copy)]
-pub(crate) struct Called<'a> {
-    kind: &'static str,
-    name: Option<&'a str>,
-    number: u32,
-}
-
-impl<'a> Called<'a> {
-    pub(crate) fn thread(name: Option<&'a Name>, number: u32) -> Called<'a> {
-        let kind = "thread";
-        let name = match name {
-            Some(name) if !name.is_none() => str::from_utf8(name.as_bytes()).ok(),
-            _ => None,
-        };
-        Called { kind, name, number }
-    }
-
-    fn port(input: &'a [u8], number: u32) -> Called<'a> {
-        let kind = "port";
-        let name = name_numbered(input, Named::ByWord(BodyWord::Port), number);
-        Called { kind, name, number }
-    }
-
-    fn mutex(input: &'a [u8], number: u32) -> Called<'a> {
-        let kind = "mutex";
-        let name = name_numbered(input, Named::ByWord(BodyWord::Mutex), number);
-        Called { kind, name, number }
+/// The words for a thread with this name and this number.
+pub(crate) fn thread_called<'a>(name: Option<&'a Name>, number: u32) -> Part<'a> {
+    match name {
+        Some(name) if !name.is_none() => Part::Named("thread", text_of(name)),
+        _ => Part::Numbered("thread", number),
     }
 }
 
-impl fmt::Display for Called<'_> {
-    fn fmt<W: fmt::Write>(&self, f: &mut fmt::Formatter<W>) -> fmt::Result {
-        let Called { kind, name, number } = *self;
-        match name {
-            Some(name) => write!(f, "{kind} '{name}'"),
-            None => write!(f, "{kind} {number}"),
+fn text_of(name: &Name) -> &str {
+    str::from_utf8(name.as_bytes()).unwrap_or("")
+}
+
+/// The words for the port or the mutex with this number, by the word that begins its line.
+fn object_called(input: &[u8], word: BodyWord, number: u32) -> Part<'_> {
+    let kind = Named::ByWord(word);
+    match name_numbered(input, kind, number) {
+        Some(name) => Part::Named(kind.text(), name),
+        None => Part::Numbered(kind.text(), number),
+    }
+}
+
+/// The warning about a thread that weighs nothing or waits for good. The input names the ports and mutexes.
+pub(crate) fn stuck_message<'a>(thread: &'a StuckThread, input: &'a [u8]) -> Message<'a> {
+    let name = thread_called(Some(&thread.name), thread.number);
+    match &thread.lack {
+        Some(lack) => weightless_message(name, lack),
+        None => waiting_message(name, thread, input),
+    }
+}
+
+/// The warning about a thread that is called so, is ready and weighs nothing.
+fn weightless_message<'a>(name: Part<'a>, lack: &'a Lack) -> Message<'a> {
+    match lack {
+        Lack::Ticket => Message::new(
+            "{} is ready at the end and weighs nothing: it wins no draw before something funds it",
+            &[name],
+        ),
+        Lack::Funding(currency) => Message::new(
+            "{} is ready at the end and weighs nothing: it wins no draw before something funds its currency '{}'",
+            &[name, Part::Text(text_of(currency))],
+        ),
+        Lack::Value => Message::new(
+            "{} is ready at the end and weighs nothing: it is funded, but its value rounds to 0",
+            &[name],
+        ),
+    }
+}
+
+/// The warning about a thread that is called so and waits for good.
+fn waiting_message<'a>(name: Part<'a>, thread: &'a StuckThread, input: &'a [u8]) -> Message<'a> {
+    match thread.status {
+        Status::Served(server) => {
+            let server = thread_called(thread.server.as_ref(), server);
+            Message::new("{} waits for good for a reply of {}", &[name, server])
         }
-    }
-}
-
-/// A thread that is ready and weighs nothing.
-#[derive(Clone, Copy)]
-pub(crate) struct Weightless<'a>(pub(crate) &'a StuckThread);
-
-impl fmt::Display for Weightless<'_> {
-    fn fmt<W: fmt::Write>(&self, f: &mut fmt::Formatter<W>) -> fmt::Result {
-        let thread = Called::thread(Some(&self.0.name), self.0.number);
-        write!(f, "{thread} is ready at the end and weighs nothing: ")?;
-        match &self.0.lack {
-            Some(Lack::Funding(currency)) => {
-                let name = str::from_utf8(currency.as_bytes()).unwrap_or("");
-                write!(
-                    f,
-                    "it wins no draw before something funds its currency '{name}'"
-                )
-            }
-            Some(Lack::Value) => f.write_str("it is funded, but its value rounds to 0"),
-            _ => f.write_str("it wins no draw before something funds it"),
+        Status::Queued(port) => {
+            let port = object_called(input, BodyWord::Port, port);
+            Message::new("{} waits for good for a server at {}", &[name, port])
         }
-    }
-}
-
-/// A thread that waits for good.
-#[derive(Clone, Copy)]
-pub(crate) struct Waiting<'a> {
-    pub(crate) thread: &'a StuckThread,
-    /// The input, which names the ports and mutexes.
-    pub(crate) input: &'a [u8],
-}
-
-impl fmt::Display for Waiting<'_> {
-    fn fmt<W: fmt::Write>(&self, f: &mut fmt::Formatter<W>) -> fmt::Result {
-        let Waiting { thread, input } = *self;
-        let name = Called::thread(Some(&thread.name), thread.number);
-        write!(f, "{name} waits for good")?;
-        match thread.status {
-            Status::Served(server) => {
-                let server = Called::thread(thread.server.as_ref(), server);
-                write!(f, " for a reply of {server}")
-            }
-            Status::Queued(port) => write!(f, " for a server at {}", Called::port(input, port)),
-            Status::Waiting(mutex) => {
-                write!(f, " for {}", Called::mutex(input, mutex))?;
-                match &thread.owner {
-                    Some(owner) => write!(f, ", {}", Owning(owner)),
-                    None => Ok(()),
-                }
-            }
-            _ => Ok(()),
+        Status::Waiting(mutex) => {
+            let mutex = object_called(input, BodyWord::Mutex, mutex);
+            mutex_message(name, mutex, thread.owner.as_ref())
         }
+        _ => Message::new("{} waits for good", &[name]),
     }
 }
 
-/// The owner of a mutex that a thread waits for.
-#[derive(Clone, Copy)]
-struct Owning<'a>(&'a Owner);
-
-impl fmt::Display for Owning<'_> {
-    fn fmt<W: fmt::Write>(&self, f: &mut fmt::Formatter<W>) -> fmt::Result {
-        let thread = Called::thread(Some(&self.0.name), self.0.number);
-        if self.0.has_ended {
-            write!(f, "whose owner, {thread}, has ended")
-        } else {
-            write!(f, "which {thread} owns")
-        }
-    }
+/// The warning about a thread that is called so and waits for the mutex that is called so, which has this owner.
+fn mutex_message<'a>(name: Part<'a>, mutex: Part<'a>, owner: Option<&'a Owner>) -> Message<'a> {
+    let Some(owner) = owner else {
+        return Message::new("{} waits for good for {}", &[name, mutex]);
+    };
+    let text = if owner.has_ended {
+        "{} waits for good for {}, whose owner, {}, has ended"
+    } else {
+        "{} waits for good for {}, which {} owns"
+    };
+    let owner = thread_called(Some(&owner.name), owner.number);
+    Message::new(text, &[name, mutex, owner])
 }

@@ -2,12 +2,14 @@
 
 use crate::lines::{
     Location, Named, OpenScript, after_line, argument_given, ends_line, name_given, name_numbered,
-    row_of, spelling_of, words_of,
+    script_word, spelling_of, words_of,
 };
-use crate::stuck::Called;
+use crate::message::{Message, Part};
+use crate::stuck::thread_called;
 use lot_machine::{ScriptTrap, TrapRefusal, Verb};
 use lot_simulation::{Argument, BodyWord, RefusedTrap, ScriptWord};
-use std::{fmt, str};
+use std::io::Write;
+use std::{io, str};
 
 /// A word of a script that makes a trap, and the name of its port or mutex, if it has one.
 #[derive(Clone, Copy)]
@@ -27,6 +29,14 @@ impl<'a> TrapWords<'a> {
         TrapWords { word, name }
     }
 
+    fn message(self) -> Message<'a> {
+        let word = Part::Text(spelling_of(ScriptWord::table(), self.word));
+        match self.name {
+            Some(name) => Message::new("{} {}", &[word, Part::Text(name)]),
+            None => Message::new("{}", &[word]),
+        }
+    }
+
     /// Whether this line of a script has these words.
     fn are_in(self, line: &[u8]) -> bool {
         let mut unfinished: Option<ScriptWord> = None;
@@ -38,8 +48,8 @@ impl<'a> TrapWords<'a> {
                 if before == self.word && self.name == Some(word) {
                     return true;
                 }
-            } else if let Some((_, keyword, form)) = row_of::<ScriptWord>(word) {
-                if form.len() > 0 {
+            } else if let Some(keyword) = script_word(word) {
+                if !keyword.stands_alone() {
                     unfinished = Some(keyword);
                 } else if keyword == self.word {
                     return true;
@@ -50,20 +60,9 @@ impl<'a> TrapWords<'a> {
     }
 }
 
-impl fmt::Display for TrapWords<'_> {
-    fn fmt<W: fmt::Write>(&self, f: &mut fmt::Formatter<W>) -> fmt::Result {
-        let word = spelling_of(self.word);
-        match self.name {
-            Some(name) => write!(f, "{word} {name}"),
-            None => f.write_str(word),
-        }
-    }
-}
-
 /// What the argument of this word names, if it names something.
 fn kind_named(word: ScriptWord) -> Option<BodyWord> {
-    let (_, _, form) = row_of::<ScriptWord>(spelling_of(word))?;
-    match form.argument(0)? {
+    match word.form().argument(0)? {
         (_, Argument::KnownName(kind)) => Some(kind),
         _ => None,
     }
@@ -118,10 +117,11 @@ impl<'a> TrapLines<'a> {
 
 /// The script of the threads with this name, if each command that makes such a thread names the same one.
 fn script_of<'a>(input: &'a [u8], thread: &str) -> Option<&'a str> {
+    let makers = makers();
     let mut script: Option<&str> = None;
     for line in input.split(ends_line) {
-        if name_given(MAKERS, line) == Some(thread) {
-            let given = argument_given(MAKERS, line, "SCRIPT");
+        if name_given(makers, line) == Some(thread) {
+            let given = argument_given(makers, line, "SCRIPT");
             if script.is_some() && script != given {
                 return None;
             }
@@ -132,37 +132,41 @@ fn script_of<'a>(input: &'a [u8], thread: &str) -> Option<&'a str> {
 }
 
 /// The words of the commands that make a thread.
-const MAKERS: &[BodyWord] = &[
-    BodyWord::Command(Verb::MakeThread),
-    BodyWord::Command(Verb::MakeFunded),
-];
-
-/// Refused traps of a thread, by the same words and for the same reason.
-#[derive(Clone, Copy)]
-pub(crate) struct RefusedWords<'a> {
-    /// The name of the file, or `None` for standard input.
-    file: Option<&'a str>,
-    traps: &'a RefusedTrap,
-    words: TrapWords<'a>,
-    /// The lines, if the input tells the thread's script.
-    lines: Option<TrapLines<'a>>,
+fn makers() -> &'static [BodyWord] {
+    &[
+        BodyWord::Command(Verb::MakeThread),
+        BodyWord::Command(Verb::MakeFunded),
+    ]
 }
 
-impl<'a> RefusedWords<'a> {
-    /// The words of these traps, in an input that was played.
-    pub(crate) fn of(
-        input: &'a [u8],
-        file: Option<&'a str>,
-        traps: &'a RefusedTrap,
-    ) -> RefusedWords<'a> {
-        let words = TrapWords::of(input, traps.trap);
-        RefusedWords {
-            file,
-            traps,
-            words,
-            lines: lines_of(input, traps, words),
-        }
-    }
+/// Writes the words of these refused traps of a thread, their lines if the input tells them, and the reason. The input
+/// was played. It fails if the writer does.
+pub(crate) fn write_traps<W: Write>(
+    writer: &mut W,
+    traps: &RefusedTrap,
+    input: &[u8],
+    file: Option<&str>,
+) -> io::Result<()> {
+    let words = TrapWords::of(input, traps.trap);
+    let lines = lines_of(input, traps, words);
+    let line = match lines {
+        Some(lines) => Some(lines.first),
+        None => None,
+    };
+    let place = Location { file, line };
+    write!(
+        writer,
+        "{place}'{}'{}",
+        words.message(),
+        lines_message(lines)
+    )?;
+    let thread = thread_called(traps.name.as_ref(), traps.thread);
+    let reason = reason_of(traps.refusal);
+    writeln!(
+        writer,
+        " was refused to {thread} {}: {reason}",
+        times_message(traps.times)
+    )
 }
 
 /// The lines with the words of these traps, if the input tells the thread's script.
@@ -183,70 +187,23 @@ fn thread_name(traps: &RefusedTrap) -> Option<&str> {
     }
 }
 
-impl fmt::Display for RefusedWords<'_> {
-    fn fmt<W: fmt::Write>(&self, f: &mut fmt::Formatter<W>) -> fmt::Result {
-        let RefusedWords {
-            file,
-            traps,
-            words,
-            lines,
-        } = *self;
-        write_trap_words(f, file, words, lines)?;
-        let thread = Called::thread(traps.name.as_ref(), traps.thread);
-        let reason = reason_of(traps.refusal);
-        write!(
-            f,
-            " was refused to {thread} {}: {reason}",
-            Times(traps.times)
-        )
-    }
-}
-
-/// Writes the words of a trap, and their lines if the input tells them.
-fn write_trap_words<W: fmt::Write>(
-    f: &mut fmt::Formatter<W>,
-    file: Option<&str>,
-    words: TrapWords<'_>,
-    lines: Option<TrapLines<'_>>,
-) -> fmt::Result {
-    let line = match lines {
-        Some(lines) => Some(lines.first),
-        None => None,
+/// The lines after the first, in words.
+fn lines_message(lines: Option<TrapLines<'_>>) -> Message<'_> {
+    let Some(TrapLines { script, others, .. }) = lines else {
+        return Message::new("", &[]);
     };
-    write!(f, "{}'{words}'", Location { file, line })?;
-    match lines {
-        Some(TrapLines { script, others, .. }) => {
-            write!(f, " in script '{script}'{}", Others(others))
-        }
-        None => Ok(()),
-    }
-}
-
-/// The number of further lines with the same words.
-#[derive(Clone, Copy)]
-struct Others(u32);
-
-impl fmt::Display for Others {
-    fn fmt<W: fmt::Write>(&self, f: &mut fmt::Formatter<W>) -> fmt::Result {
-        match self.0 {
-            0 => Ok(()),
-            1 => f.write_str(" (here or in 1 more line)"),
-            count => write!(f, " (here or in {count} more lines)"),
-        }
-    }
+    let text = match others {
+        0 => " in script '{}'",
+        1 => " in script '{}' (here or in 1 more line)",
+        _ => " in script '{}' (here or in {} more lines)",
+    };
+    Message::new(text, &[Part::Text(script), Part::Number(u64::from(others))])
 }
 
 /// A number of times, in words.
-#[derive(Clone, Copy)]
-struct Times(u64);
-
-impl fmt::Display for Times {
-    fn fmt<W: fmt::Write>(&self, f: &mut fmt::Formatter<W>) -> fmt::Result {
-        match self.0 {
-            1 => f.write_str("once"),
-            count => write!(f, "{count} times"),
-        }
-    }
+fn times_message(times: u64) -> Message<'static> {
+    let text = if times == 1 { "once" } else { "{} times" };
+    Message::new(text, &[Part::Number(times)])
 }
 
 /// The reason in words.

@@ -1,13 +1,14 @@
 //! The warnings of a run, in words.
 
 use crate::lines::{InputCommand, Location};
-use crate::reason::Reason;
-use crate::stuck::{Waiting, Weightless};
-use crate::traps::RefusedWords;
+use crate::message::{Message, Part};
+use crate::reason::reason_message;
+use crate::stuck::stuck_message;
+use crate::traps::write_traps;
 use crate::unmade::write_unmade;
-use lot_simulation::{EarlyEnd, FirstFew, RefusedTrap, Warnings};
+use lot_simulation::{EarlyEnd, FirstFew, RefusedTrap, StuckThread, Warnings};
+use std::io;
 use std::io::Write;
-use std::{fmt, io};
 
 /// Writes the warnings of a run, a line for each: an early end, commands refused or never made, refused traps, and
 /// threads that can never run again. Messages name the input by this file's name, or as standard input. It was
@@ -22,12 +23,15 @@ pub fn write_warnings<W: Write>(
     write_refused(writer, warnings, input, file)?;
     write_unmade(writer, warnings, input, file)?;
     write_refused_traps(writer, &warnings.refused_traps, input, file)?;
-    write_stuck(writer, warnings, input, file)
-}
-
-/// The location of a message about the whole input.
-fn whole(file: Option<&str>) -> Location<'_> {
-    Location { file, line: None }
+    let (weightless, waiting) = (&warnings.weightless, &warnings.waiting);
+    write_stuck(
+        writer,
+        weightless,
+        "threads that are ready and weigh nothing",
+        input,
+        file,
+    )?;
+    write_stuck(writer, waiting, "threads that wait for good", input, file)
 }
 
 /// Whether a refusal ended the play whose warnings these are. Of several plays it is the first; a refusal may have
@@ -38,10 +42,6 @@ pub(crate) fn is_ended_by_refusal(warnings: &Warnings) -> bool {
     warnings.stopped && (has_refused || has_trapped)
 }
 
-/// The message if a refusal ended another play than the first.
-const OTHER_PLAY: &str =
-    "a refusal ended a play with another seed than the first: the input is strict";
-
 /// Writes how plays ended before their time, if any did.
 fn write_endings<W: Write>(
     writer: &mut W,
@@ -50,12 +50,28 @@ fn write_endings<W: Write>(
 ) -> io::Result<()> {
     let by_refusal = is_ended_by_refusal(warnings);
     if let Some(early) = warnings.early {
-        writeln!(writer, "{}{}", whole(file), Early { early, by_refusal })?;
+        early_message(early, by_refusal).write(writer, file, None)?;
     }
-    if warnings.stopped && !by_refusal {
-        writeln!(writer, "{}{OTHER_PLAY}", whole(file))?;
+    if !warnings.stopped || by_refusal {
+        return Ok(());
     }
-    Ok(())
+    let text = "a refusal ended a play with another seed than the first: the input is strict";
+    Message::new(text, &[]).write(writer, file, None)
+}
+
+/// The warning about the early end of a timed run. A refusal ends a run whose input is strict.
+fn early_message(early: EarlyEnd, by_refusal: bool) -> Message<'static> {
+    let EarlyEnd { time, end, turns } = early;
+    let text = if by_refusal {
+        "the run ended at tick {} of {}: the input is strict, and turn {} was refused"
+    } else {
+        "the run was cut at tick {} of {}: it made {} turns, and a run makes no more"
+    };
+    let (time, end) = (u64::from(time), u64::from(end));
+    Message::new(
+        text,
+        &[Part::Number(time), Part::Number(end), Part::Number(turns)],
+    )
 }
 
 /// Writes the refused commands, and the reasons.
@@ -65,12 +81,12 @@ fn write_refused<W: Write>(
     input: &[u8],
     file: Option<&str>,
 ) -> io::Result<()> {
+    let alloc = warnings.allocator();
     let all = warnings.refused.first();
     for refused in all {
         // The input was played, so it has each command of the run.
         if let Some(command) = InputCommand::at(input, refused.place) {
-            let alloc = warnings.allocator();
-            let reason = Reason::of(alloc, input, command, refused.refusal, all);
+            let reason = reason_message(alloc, input, command, refused.refusal, all);
             let line = Some(command.number);
             writeln!(
                 writer,
@@ -95,36 +111,23 @@ fn write_refused_traps<W: Write>(
     file: Option<&str>,
 ) -> io::Result<()> {
     for traps in refused.first() {
-        writeln!(writer, "{}", RefusedWords::of(input, file, traps))?;
+        write_traps(writer, traps, input, file)?;
     }
     write_others(writer, refused, "traps that were refused", file)
 }
 
-/// Writes the threads that can never run again.
+/// Writes these threads, which weigh nothing or wait for good.
 fn write_stuck<W: Write>(
     writer: &mut W,
-    warnings: &Warnings,
+    threads: &FirstFew<StuckThread>,
+    what: &str,
     input: &[u8],
     file: Option<&str>,
 ) -> io::Result<()> {
-    for thread in warnings.weightless.first() {
-        writeln!(writer, "{}{}", whole(file), Weightless(thread))?;
+    for thread in threads.first() {
+        stuck_message(thread, input).write(writer, file, None)?;
     }
-    write_others(
-        writer,
-        &warnings.weightless,
-        "threads that are ready and weigh nothing",
-        file,
-    )?;
-    for thread in warnings.waiting.first() {
-        writeln!(writer, "{}{}", whole(file), Waiting { thread, input })?;
-    }
-    write_others(
-        writer,
-        &warnings.waiting,
-        "threads that wait for good",
-        file,
-    )
+    write_others(writer, threads, what, file)
 }
 
 /// Writes the number of items not listed, if there are any.
@@ -136,30 +139,9 @@ fn write_others<W: Write, T: Drop>(
 ) -> io::Result<()> {
     match few.others() {
         0 => Ok(()),
-        count => writeln!(writer, "{}and {count} more {what}", whole(file)),
-    }
-}
-
-/// The early end of a timed run.
-#[derive(Clone, Copy)]
-struct Early {
-    early: EarlyEnd,
-    /// Whether a refusal ended the run, as one does in a strict input.
-    by_refusal: bool,
-}
-
-impl fmt::Display for Early {
-    fn fmt<W: fmt::Write>(&self, f: &mut fmt::Formatter<W>) -> fmt::Result {
-        let EarlyEnd { time, end, turns } = self.early;
-        if self.by_refusal {
-            return write!(
-                f,
-                "the run ended at tick {time} of {end}: the input is strict, and turn {turns} was refused"
-            );
+        count => {
+            let parts = [Part::Number(count as u64), Part::Text(what)];
+            Message::new("and {} more {}", &parts).write(writer, file, None)
         }
-        write!(
-            f,
-            "the run was cut at tick {time} of {end}: it made {turns} turns, and a run makes no more"
-        )
     }
 }

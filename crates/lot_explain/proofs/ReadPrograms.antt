@@ -1,11 +1,14 @@
 -- Every accepted program has sizes within their bounds, short names of threads, and times of 32 bits.
-use Rattle.lot_explain.proofs.Common.{ActorRun, All, All-nil, All-push, BadHeader, BadLine, BadNumber, BodyWord, Bool, Command, Err, HasShortName, HeaderWord, IfOk, IfSome, InputRefusal, IsBetween, IsUnit, IsWithinBounds, List, None, Ok, OpenScript, Option, Phrase, Program, Reading, Result, ScriptLine, ScriptWord, Separators, Slot, Some, TooDeep, TooLong, UnknownName, Value, Verb, actor_below, actors_of, add_line, add_made, add_named, add_naming, add_runs, all-pass, any_name, any_number, any_ticket, arith, body_after_header, body_line, body_words_of, bytes_eq, checked, closed_program, codes, command_from, command_line, cond, drop, each, each_pair, end_of, false, first_failing, first_line, fitting_line, form, header_in_order, header_line, header_words_of, if◌then◌else◌, in_time, is_full, is_good_name, is_ignored, is_late, is_long_name, lacks_duration, later_line, leb-false, length, length-append, line_inside, line_outside, lines_of, ltb-false, map, max, name_at_end, name_in, named_ticket, nat_le, nat_lt, new_name, not, number_between, number_named, numbered, opening_reading, or_parts, phrase_inside, phrases_inside, phrases_of, program_in, program_of, read_line, read_lines, refl, refused_on, run_of, script_line, script_names, script_number, script_words, separators_of, subst, timed_script_words, token_line, tokens_of, true, unwrap_or, value_from, values_from, whole_program, with_header_word, with_line, without_end, word_in, ℕ, [], ⊤, ◌%◌, ◌&&◌, ◌++◌, ◌+◌, ◌-◌, ◌<◌, ◌==◌, ◌>>=◌, ◌^◌, ◌||◌, ◌∷◌, ◌≡◌, ◌≤◌}
+use Rattle.lot_explain.proofs.Common.{ActorRun, All, All-nil, All-push, BadHeader, BadLine, BadNumber, BodyWord, Bool, Command, Err, HasShortName, HeaderWord, IfOk, IfSome, InputRefusal, IsBetween, IsUnit, IsWithinBounds, List, None, Ok, OpenScript, Option, Phrase, Program, Reading, Result, ScriptLine, ScriptWord, Separators, Slot, Some, TooDeep, TooLong, UnknownName, Value, Verb, actor_below, actors_of, add_line, add_made, add_named, add_naming, add_runs, all-pass, any_name, any_number, any_ticket, ap, arith, body_after_header, body_line, body_words_of, bytes_eq, checked, closed_program, codes, command_from, command_line, cond, drop, each, each_pair, end_of, false, first_failing, first_line, fitting_line, form, header_in_order, header_line, header_words_of, if◌then◌else◌, in_time, is_full, is_good_name, is_ignored, is_late, is_long_name, lacks_duration, later_line, leb-false, length, length-append, line_inside, line_outside, lines_of, ltb-false, map, max, name_at_end, name_in, named_ticket, nat_le, nat_lt, new_name, not, number_between, number_named, numbered, opening_reading, or_parts, phrase_inside, phrases_inside, phrases_of, program_in, program_of, read_line, read_lines, refl, refused_on, run_of, script_line, script_names, script_number, script_words, separators_of, subst, sym, timed_script_words, token_line, tokens_of, true, unwrap_or, value_from, values_from, whole_program, with_header_word, with_line, without_end, word_in, ℕ, [], ⊤, ◌%◌, ◌&&◌, ◌++◌, ◌+◌, ◌-◌, ◌<◌, ◌==◌, ◌>>=◌, ◌^◌, ◌||◌, ◌∙◌, ◌∷◌, ◌≡◌, ◌≤◌}
+use Rattle.lot_machine.specs.declared.reference.CurrencyRef.{CurrencyRef}
 use Rattle.lot_machine.specs.declared.reference.CurrencyRef.TheVariants as currency_ref
+use Rattle.lot_machine.specs.declared.reference.ThreadRef.{ThreadRef}
 use Rattle.lot_machine.specs.declared.reference.ThreadRef.TheVariants as thread_ref
+use Rattle.lot_machine.specs.declared.reference.TargetRef.{TargetRef}
 use Rattle.lot_machine.specs.declared.reference.TargetRef.TheVariants as target_ref
-use Rattle.lot_machine.specs.declared.verb.Slot.TheVariants as slot
+use Rattle.lot_machine.specs.declared.arguments.Slot.TheVariants as slot
 use Rattle.lot_machine.specs.Arguments as value
-use Rattle.lot_machine.specs.declared.verb.Verb.TheVariants as verb
+use Rattle.lot_machine.specs.declared.command.Verb.TheVariants as verb
 use Rattle.lot_simulation.specs.declared.input.BodyWord.TheVariants as body
 use Rattle.lot_simulation.specs.declared.input.HeaderWord.TheVariants as header
 use Rattle.lot_simulation.specs.declared.input.InputRefusal.TheVariants.{OpenScript as ScriptIsOpen}
@@ -79,46 +82,47 @@ name-short token =
 
 -- ---- arguments
 
--- an argument that is a name has at most 16 bytes
-abbrev IsShortValue : Value → Type 0
-IsShortValue (value.Name name) = IsShortName name
-IsShortValue other = ⊤
+-- an argument of this kind; a name has at most 16 bytes
+abbrev Given : Slot → Type 0
+Given slot.Currency = CurrencyRef
+Given slot.Target = TargetRef
+Given slot.Thread = ThreadRef
+Given slot.Name = (name : List ℕ) × IsShortName name
+Given number = ℕ
 
--- so has each
-abbrev AreShort : List Value → Type 0
-AreShort [] = ⊤
-AreShort (v ∷ values) = IsShortValue v × AreShort values
+-- as a value
+abbrev as_value : (kind : Slot) → Given kind → Value
+as_value slot.Amount amount = value.Amount amount
+as_value slot.Ticket ticket = value.Ticket ticket
+as_value slot.Currency currency = value.Currency currency
+as_value slot.Target target = value.Target target
+as_value slot.Thread thread = value.Thread thread
+as_value slot.Name name = value.Name name.0
+as_value slot.Script number = value.Script number
 
--- also with a number in the place of a ticket's name
-numbered-short : (values : List Value) → AreShort values → AreShort (map (numbered 0) values)
-numbered-short [] short = tt
-numbered-short (v ∷ values) short = (at v short.0, numbered-short values short.1)
-  where
-    at : (w : Value) → IsShortValue w → IsShortValue (numbered 0 w)
-    at (value.NamedTicket name) is = tt
-    at (value.Amount amount) is = is
-    at (value.Ticket ticket) is = is
-    at (value.Currency currency) is = is
-    at (value.Target target) is = is
-    at (value.Thread thread) is = is
-    at (value.Name name) is = is
-    at (value.Script number) is = is
+-- an argument of each kind
+abbrev AllGiven : List Slot → Type 0
+AllGiven [] = ⊤
+AllGiven (kind ∷ kinds) = Given kind × AllGiven kinds
 
--- so the command with these arguments gives a thread a short name
-command-short : (v : Verb) (values : List Value) → AreShort values → IfSome (command_from v values) HasShortName
-command-short verb.MakeTicket (value.Amount a ∷ value.Currency c ∷ []) short = tt
-command-short verb.RemoveTicket (value.Ticket t ∷ []) short = tt
-command-short verb.MakeCurrency (value.Name name ∷ []) short = tt
-command-short verb.RemoveCurrency (value.Currency c ∷ []) short = tt
-command-short verb.Fund (value.Ticket t ∷ value.Target to ∷ []) short = tt
-command-short verb.Unfund (value.Ticket t ∷ []) short = tt
-command-short verb.SetTicket (value.Ticket t ∷ value.Amount a ∷ []) short = tt
-command-short verb.MakeThread (value.Name name ∷ value.Script s ∷ []) short = short.0
-command-short verb.RemoveThread (value.Thread t ∷ []) short = tt
-command-short verb.Kill (value.Thread t ∷ []) short = tt
-command-short verb.MakeFunded (value.Amount a ∷ value.Currency c ∷ value.Name name ∷ value.Script s ∷ []) short = short.1.1.0
-command-short (verb.List kind) [] short = tt
-command-short v other short = tt
+-- as values
+abbrev as_values : (kinds : List Slot) → AllGiven kinds → List Value
+as_values [] given = []
+as_values (kind ∷ kinds) given = as_value kind given.0 ∷ as_values kinds given.1
+
+-- the value is an argument of this kind, with a number in the place of a ticket's name
+abbrev IsGiven : Slot → Value → Type 0
+IsGiven kind w = (given : Given kind) × (numbered 0 w ≡ as_value kind given)
+
+-- so is each, for its kind
+abbrev AreGiven : List Slot → List Value → Type 0
+AreGiven kinds values = (given : AllGiven kinds) × (map (numbered 0) values ≡ as_values kinds given)
+
+-- the command with these arguments gives a thread a short name
+command-short : (v : Verb) (given : AllGiven (form v)) → IfSome (command_from v (as_values (form v) given)) HasShortName
+command-short verb.MakeThread given = given.0.1
+command-short verb.MakeFunded given = given.1.1.0.1
+command-short other given = tt
 
 -- ---- what every reading has
 
@@ -275,45 +279,46 @@ module _ (r : Reading) (kept : IsRead r) where
   made-kept None values (Some c) short = naming-kept r kept (name_in values) c short
   made-kept (Some token) values (Some c) short = named-kept token c short
 
-  -- a ticket is no name of a thread
-  ticket-short : (token : List ℕ) → Reads (any_ticket r token) IsShortValue
-  ticket-short token = at (number_of token) refl
+  -- a ticket
+  ticket-given : (token : List ℕ) → Reads (any_ticket r token) (IsGiven slot.Ticket)
+  ticket-given token = at (number_of token) refl
     where
-      known : (o : Option ℕ) → Reads (named_ticket o) IsShortValue
-      known None = refuses IsShortValue UnknownName
-      known (Some name) = reads IsShortValue (value.NamedTicket name) tt
+      known : (o : Option ℕ) → Reads (named_ticket o) (IsGiven slot.Ticket)
+      known None = refuses (IsGiven slot.Ticket) UnknownName
+      known (Some name) = reads (IsGiven slot.Ticket) (value.NamedTicket name) (0, refl)
 
-      named : (good : Bool) → Reads (if good then named_ticket (number_named r.ticket_names token) else Err BadNumber) IsShortValue
+      named : (good : Bool) → Reads (if good then named_ticket (number_named r.ticket_names token) else Err BadNumber) (IsGiven slot.Ticket)
       named true = known (number_named r.ticket_names token)
-      named false = refuses IsShortValue BadNumber
+      named false = refuses (IsGiven slot.Ticket) BadNumber
 
-      at : (o : Option ℕ) → number_of token ≡ o → Reads (any_ticket r token) IsShortValue
-      at (Some number) is = rw is (reads IsShortValue (value.Ticket number) tt)
+      at : (o : Option ℕ) → number_of token ≡ o → Reads (any_ticket r token) (IsGiven slot.Ticket)
+      at (Some number) is = rw is (reads (IsGiven slot.Ticket) (value.Ticket number) (number, refl))
       at None is = rw is (named (r.is_timed && is_good_name token))
 
   -- an argument of a command
-  value-short : (kind : Slot) (token : List ℕ) → Reads (value_from r kind token) IsShortValue
-  value-short slot.Amount token = any-read (any_number token) IsShortValue (λ amount. reads IsShortValue (value.Amount amount) tt)
-  value-short slot.Ticket token = ticket-short token
-  value-short slot.Currency token = any-read (any_name token) IsShortValue (λ name. reads IsShortValue (value.Currency (currency_ref.Named name)) tt)
-  value-short slot.Target token = any-read (any_name token) IsShortValue (λ name. reads IsShortValue (value.Target (target_ref.Named name)) tt)
-  value-short slot.Thread token = any-read (any_name token) IsShortValue (λ name. reads IsShortValue (value.Thread (thread_ref.Named name)) tt)
-  value-short slot.Name token = then-read IsShortName IsShortValue (name-short token) (λ name short. reads IsShortValue (value.Name name) short)
-  value-short slot.Script token = any-read (script_number (script_names r) token) IsShortValue (λ number. reads IsShortValue (value.Script number) tt)
+  value-given : (kind : Slot) (token : List ℕ) → Reads (value_from r kind token) (IsGiven kind)
+  value-given slot.Amount token = any-read (any_number token) (IsGiven slot.Amount) (λ amount. reads (IsGiven slot.Amount) (value.Amount amount) (amount, refl))
+  value-given slot.Ticket token = ticket-given token
+  value-given slot.Currency token = any-read (any_name token) (IsGiven slot.Currency) (λ name. reads (IsGiven slot.Currency) (value.Currency (currency_ref.Named name)) (currency_ref.Named name, refl))
+  value-given slot.Target token = any-read (any_name token) (IsGiven slot.Target) (λ name. reads (IsGiven slot.Target) (value.Target (target_ref.Named name)) (target_ref.Named name, refl))
+  value-given slot.Thread token = any-read (any_name token) (IsGiven slot.Thread) (λ name. reads (IsGiven slot.Thread) (value.Thread (thread_ref.Named name)) (thread_ref.Named name, refl))
+  value-given slot.Name token = then-read IsShortName (IsGiven slot.Name) (name-short token) (λ name short. reads (IsGiven slot.Name) (value.Name name) ((name, short), refl))
+  value-given slot.Script token = any-read (script_number (script_names r) token) (IsGiven slot.Script) (λ number. reads (IsGiven slot.Script) (value.Script number) (number, refl))
 
   -- its arguments
-  values-short : (kinds : List Slot) (tokens : List (List ℕ)) → Reads (values_from r kinds tokens) AreShort
-  values-short [] tokens = reads AreShort [] tt
-  values-short (kind ∷ kinds) [] = refuses AreShort BadLine
-  values-short (kind ∷ kinds) (token ∷ tokens) =
-      then-read IsShortValue AreShort (value-short kind token) (λ first is. then-read AreShort AreShort (values-short kinds tokens) (λ others are. reads AreShort (first ∷ others) (is, are)))
+  values-given : (kinds : List Slot) (tokens : List (List ℕ)) → Reads (values_from r kinds tokens) (AreGiven kinds)
+  values-given [] tokens = reads (AreGiven []) [] (tt, refl)
+  values-given (kind ∷ kinds) [] = refuses (AreGiven (kind ∷ kinds)) BadLine
+  values-given (kind ∷ kinds) (token ∷ tokens) =
+      then-read (IsGiven kind) (AreGiven (kind ∷ kinds)) (value-given kind token) (λ first (x, is). then-read (AreGiven kinds) (AreGiven (kind ∷ kinds)) (values-given kinds tokens) (λ others (xs, are).
+      reads (AreGiven (kind ∷ kinds)) (first ∷ others) ((x, xs), ap (λ w. w ∷ map (numbered 0) others) is ∙ ap (λ ws. as_value kind x ∷ ws) are)))
 
   -- a line of a command
   command-kept : (v : Verb) (tokens : List (List ℕ)) → Reads (command_line r v tokens) IsRead
   command-kept v tokens =
       any-read (checked ((nat_lt (length tokens) (length (form v)), BadLine) ∷ []) tokens) IsRead (λ given. any-read (name_at_end r v (drop (length (form v)) given)) IsRead (λ name.
-      then-read AreShort IsRead (values-short (form v) given) (λ values short.
-      made-kept name values (command_from v (map (numbered 0) values)) (command-short v (map (numbered 0) values) (numbered-short values short)))))
+      then-read (AreGiven (form v)) IsRead (values-given (form v) given) (λ values (arguments, are).
+      made-kept name values (command_from v (map (numbered 0) values)) (subst (λ ws. IfSome (command_from v ws) HasShortName) (sym are) (command-short v arguments)))))
 
   -- a schedule that goes on by runs
   runs-kept : (runs : List ActorRun) → Reads (add_runs r runs) IsRead

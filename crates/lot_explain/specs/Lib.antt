@@ -5,5 +5,4 @@ pub mod Numbers
 pub mod Explained
 pub mod MadeTurns
 pub mod Gathering
-pub mod OnLiterals
 pub mod Short

@@ -5,7 +5,7 @@ ghost use Rattle.lot_explain.specs.declared.detail.Detail.TheVariants.{Funding, 
 ghost use Rattle.lot_explain.specs.Explained.{explained_output};
 
 /// Two threads that compute, with shares of 2 to 1.
-#[tactic(auto, unfolding(crate::specs::OnLiterals::texts_on_literals))]
+#[tactic(auto, unfolding(lot_simulation::specs::OnLiterals::texts_on_literals))]
 pub fn two_spinners()
     ensures { explained_output Lots (text (codes "lottery 1" ∷ codes "script spin" ∷ codes "compute 1000"
         ∷ codes "endscript" ∷ codes "fundx 10 base a spin" ∷ codes "fundx 5 base b spin"
@@ -22,7 +22,7 @@ pub fn two_spinners()
 
 /// A thread that used a third of its quantum weighs three times its value (4.5). Weights are printed as in listings,
 /// and numbers as in draws.
-#[tactic(auto, unfolding(crate::specs::OnLiterals::texts_on_literals))]
+#[tactic(auto, unfolding(lot_simulation::specs::OnLiterals::texts_on_literals))]
 pub fn compensated()
     ensures { explained_output Lots (text (codes "lottery 2" ∷ codes "quantum 9" ∷ codes "seed 3" ∷ codes "script short"
         ∷ codes "compute 2" ∷ codes "yield" ∷ codes "endscript" ∷ codes "script long" ∷ codes "compute 9"
@@ -37,7 +37,7 @@ pub fn compensated()
 {}
 
 /// An unlock that passes its mutex on by a lottery between two waiters (6.1). Its owner also has their lends.
-#[tactic(auto, unfolding(crate::specs::OnLiterals::texts_on_literals))]
+#[tactic(auto, unfolding(lot_simulation::specs::OnLiterals::texts_on_literals))]
 pub fn mutex_lottery()
     ensures { explained_output Lots (text (codes "lottery 1" ∷ codes "quantum 10" ∷ codes "seed 132" ∷ codes "mutex m"
         ∷ codes "script one" ∷ codes "lock m" ∷ codes "compute 2" ∷ codes "yield" ∷ codes "unlock m"
@@ -60,7 +60,7 @@ pub fn mutex_lottery()
 {}
 
 /// A draw without a winner has no lots, and neither has a turn without a command.
-#[tactic(auto, unfolding(crate::specs::OnLiterals::texts_on_literals))]
+#[tactic(auto, unfolding(lot_simulation::specs::OnLiterals::texts_on_literals))]
 pub fn nobody_wins()
     ensures { explained_output Lots (text (codes "lottery 1" ∷ codes "schedule 1 0" ∷ []))
         ≡ text (codes "1 idle" ∷ codes "0 refused 41 Ended" ∷ codes "report"
@@ -68,7 +68,7 @@ pub fn nobody_wins()
 {}
 
 /// A refused input has the one line that `play` writes.
-#[tactic(auto, unfolding(crate::specs::OnLiterals::texts_on_literals))]
+#[tactic(auto, unfolding(lot_simulation::specs::OnLiterals::texts_on_literals))]
 pub fn refused_inputs()
     ensures header { explained_output Lots (text (codes "lottery 4" ∷ [])) ≡ refused_on_line (codes "1 50 BadHeader") }
     ensures line { explained_output Lots (text (codes "lottery 1" ∷ codes "nonsense" ∷ []))
@@ -77,7 +77,7 @@ pub fn refused_inputs()
 
 /// A timed input: each line begins with its time, numbers have digits after the point, and a compensated thread's line
 /// gives the reason for its weight (4.5).
-#[tactic(auto, unfolding(crate::specs::OnLiterals::texts_on_literals, lot_simulation::specs::Timed::timed_room))]
+#[tactic(auto, unfolding(lot_simulation::specs::OnLiterals::texts_on_literals, lot_simulation::specs::Timed::timed_room))]
 pub fn in_time()
     ensures { explained_output Lots (text (codes "lottery 3" ∷ codes "quantum 9" ∷ codes "for 12" ∷ codes "seed 5"
         ∷ codes "script short" ∷ codes "compute 2" ∷ codes "yield" ∷ codes "endscript" ∷ codes "script long"
@@ -96,7 +96,7 @@ pub fn in_time()
 {}
 
 /// Three threads that share 100 of base: values are truncated after the third digit (4.4).
-#[tactic(auto, unfolding(crate::specs::OnLiterals::texts_on_literals, lot_simulation::specs::Timed::timed_room))]
+#[tactic(auto, unfolding(lot_simulation::specs::OnLiterals::texts_on_literals, lot_simulation::specs::Timed::timed_room))]
 pub fn behind_the_point()
     ensures { explained_output Lots (text (codes "lottery 3" ∷ codes "for 1" ∷ codes "script s" ∷ codes "compute 5"
         ∷ codes "endscript" ∷ codes "mkcur g" ∷ codes "mktkt 100 base" ∷ codes "fund 1 g" ∷ codes "fundx 1 g a s"
@@ -115,7 +115,7 @@ pub fn behind_the_point()
 {}
 
 /// A served client lends its value to its server (4.6). The loan also raises a compensated server's weight.
-#[tactic(auto, unfolding(crate::specs::OnLiterals::texts_on_literals, lot_simulation::specs::Timed::timed_room))]
+#[tactic(auto, unfolding(lot_simulation::specs::OnLiterals::texts_on_literals, lot_simulation::specs::Timed::timed_room))]
 pub fn serving()
     ensures { explained_output Lots (text (codes "lottery 3" ∷ codes "quantum 9" ∷ codes "for 3" ∷ codes "seed 4"
         ∷ codes "port p" ∷ codes "script serve" ∷ codes "receive p" ∷ codes "compute 4" ∷ codes "reply"
@@ -136,7 +136,7 @@ pub fn serving()
 {}
 
 /// A thread that waits for a mutex lends its value to the owner (6.1).
-#[tactic(auto, unfolding(crate::specs::OnLiterals::texts_on_literals, lot_simulation::specs::Timed::timed_room))]
+#[tactic(auto, unfolding(lot_simulation::specs::OnLiterals::texts_on_literals, lot_simulation::specs::Timed::timed_room))]
 pub fn waiting()
     ensures { explained_output Lots (text (codes "lottery 3" ∷ codes "quantum 9" ∷ codes "for 4" ∷ codes "seed 3"
         ∷ codes "mutex m" ∷ codes "script hold" ∷ codes "lock m" ∷ codes "compute 1" ∷ codes "yield"
@@ -157,7 +157,7 @@ pub fn waiting()
 
 /// The funding: two threads share a currency's value as 3 to 1 (4.4). The currency's third ticket funds nothing, so it
 /// isn't active. A thread that waits for a mutex is funded too, and lends its value.
-#[tactic(auto, unfolding(crate::specs::OnLiterals::texts_on_literals, lot_simulation::specs::Timed::timed_room))]
+#[tactic(auto, unfolding(lot_simulation::specs::OnLiterals::texts_on_literals, lot_simulation::specs::Timed::timed_room))]
 pub fn funded()
     ensures { explained_output Funding (text (codes "lottery 3" ∷ codes "quantum 9" ∷ codes "for 4" ∷ codes "seed 2"
         ∷ codes "mutex m" ∷ codes "script hold" ∷ codes "lock m" ∷ codes "compute 1" ∷ codes "yield"

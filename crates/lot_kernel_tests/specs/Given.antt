@@ -1,7 +1,7 @@
 -- Arguments for tests.
 use Rattle.std.specs.Prelude.{Result, Ok}
-use Rattle.lot_machine.specs.declared.verb.Slot.{Slot}
-use Rattle.lot_machine.specs.declared.verb.Slot.TheVariants as slot
+use Rattle.lot_machine.specs.declared.arguments.Slot.{Slot}
+use Rattle.lot_machine.specs.declared.arguments.Slot.TheVariants as slot
 use Rattle.lot_machine.specs.Arguments.{Value}
 use Rattle.lot_machine.specs.Arguments as value
 use Rattle.lot_kernel_tests.specs.declared.commands.OneOfEach.{OneOfEach}

@@ -4,7 +4,6 @@ ghost use Rattle.lot_kernel_tests.specs.Given.{given};
 use lot_machine::{
     Arguments, Command, CurrencyRef, Name, Slot, TargetRef, ThreadRef, Verb, command_of, form_of,
 };
-use lot_simulation::{BodyWord, Format};
 
 /// An argument of each kind, which is given as often as it is asked for.
 #[derive(Debug, Drop)]
@@ -113,14 +112,4 @@ pub fn command_with(verb: Verb, arguments: &str) -> Option<Command> {
         each.set(*slot, words.next()?)?;
     }
     command_of(verb, &mut each).ok()
-}
-
-/// The command of such a line, `fundx 100 base a 1`, by the word that it has in an input. None also if no command has
-/// the word.
-pub fn command_in(line: &str) -> Option<Command> {
-    let (word, arguments) = line.split_once(' ').unwrap_or((line, ""));
-    match BodyWord::of_token(Format::V3, word.as_bytes())? {
-        BodyWord::Command(verb) => command_with(verb, arguments),
-        _ => None,
-    }
 }

@@ -4,7 +4,7 @@ use Rattle.lot_machine.specs.declared.event.Event.TheVariants as event
 use Rattle.lot_machine.specs.declared.funding.Node.TheVariants.{Mutex}
 use Rattle.lot_laws.proofs.Insulated.{insulated}
 use Rattle.lot_machine.specs.Change.{DropTicket, NewTicket, PutTicket}
-use Rattle.lot_machine.proofs.StepChanges.{By, HasGaps, IsAmount, Keeps, Replaces, by_command, change-gaps, kept, step-leads}
+use Rattle.lot_machine.proofs.StepChanges.{By, Gives, HasGaps, IsAmount, Keeps, Replaces, by_command, change-gaps, kept, step-leads}
 
 -- ---- a ticket's place
 
@@ -62,9 +62,9 @@ removed n xs m = one-changed n xs m None (λ u at is. cc)
 abbrev KeepsIn : ℕ → State → State → Type 0
 KeepsIn n s after = ComesOf n s.tickets after.tickets
 
--- it isn't `settkt` of the ticket
+-- it gives the ticket no amount
 abbrev Spares : By → ℕ → Type 0
-Spares by n = (amount : ℕ) → ¬ (by ≡ Console (SetTicket n amount))
+Spares by n = (amount : ℕ) → ¬ Gives by n amount
 
 -- what the console's command changes, its event does
 by-event : (s : State) (e : Event) (c : Command) → by_event s e ≡ Console c → e ≡ event.Command c
@@ -76,15 +76,15 @@ by-event s (event.Command d) c is = ap event.Command (by-command d is)
 by-event s other c is = cc
 
 spared : (s : State) (e : Event) (n : ℕ) → ¬ SetsAmountOf n e → Spares (by_event s e) n
-spared s e n elsewhere amount is = elsewhere (amount, by-event s e (SetTicket n amount) is)
+spared s e n elsewhere amount (c, is, gives) = elsewhere (c, amount, by-event s e c is, gives)
 
 -- what replaces a ticket has its amount
 same-amount : (by : By) (a : State) (n m : ℕ) (old new : Ticket) → Spares by n → n ≡ m → Replaces by a m old new → old.amount ≡ new.amount
 same-amount by a n m old new spares at replaces = from replaces.amount
   where
-    from : (new.amount ≡ old.amount) ⊎ ((by ≡ Console (SetTicket m new.amount)) × IsAmount new.amount) → old.amount ≡ new.amount
+    from : (new.amount ≡ old.amount) ⊎ (Gives by m new.amount × IsAmount new.amount) → old.amount ≡ new.amount
     from (inl same) = sym same
-    from (inr (sets, good)) = absurd (spares new.amount (sets ∙ ap (λ k. Console (SetTicket k new.amount)) (sym at)))
+    from (inr (gives, good)) = absurd (spares new.amount (subst (λ k. Gives by k new.amount) (sym at) gives))
 
 -- it has its number
 there-number : (xs : List (Option Ticket)) (n : ℕ) (t : Ticket) → ticket_in xs n ≡ Some t → suc (n - 1) ≡ n
@@ -95,7 +95,7 @@ one-placed : (n : ℕ) (s : State) (ticket : Ticket) → s.limits.reuse ≡ fals
 one-placed n s ticket once =
     subst (λ free. ComesOf n s.tickets (placed s.tickets free (Some ticket))) (sym (ap (λ b. cond {A = List ℕ} b s.freed.tickets []) once)) (one-more n s.tickets ticket.amount ticket.issuer ticket.target)
 
--- each change but `settkt` of the ticket leaves its amount, where numbers are given once
+-- each change that gives the ticket no amount leaves its amount, where numbers are given once
 change-comes : (by : By) (s : State) (n : ℕ) → Spares by n → Keeps by s (λ a. (a.limits.reuse ≡ false) × KeepsIn n s a)
 change-comes by s n spares a (NewTicket t) allowed (once, comes) = (once, then n s.tickets a.tickets (placed a.tickets (free_tickets a) (Some t)) comes (one-placed n a t once))
 change-comes by s n spares a (DropTicket m) allowed (once, comes) = (once, then n s.tickets a.tickets (without_ticket a.tickets m) comes (removed n a.tickets m))
@@ -160,7 +160,7 @@ stays-put n xs m x was (old, there) t is = by (number-set xs m x n)
         let at : n ≡ m = place ∙ number-there xs m (Some old) (flatten-some (at_number xs m) old there) in
         let (u, new, amount) = was t at is in (u, ap option_flatten now ∙ new, amount)
 
--- each change but `settkt` and the removal of the ticket leaves it its amount, where numbers are given again
+-- each change that gives it no amount and doesn't remove it leaves it its amount, where numbers are given again
 change-stays : (by : By) (s : State) (n : ℕ) → Spares by n → ¬ (by ≡ Console (RemoveTicket n)) → Keeps by s (λ a. (a.limits.reuse ≡ true) × HasGaps a × Stays n s a)
 change-stays by s n spares left a (NewTicket new) allowed (on, gaps, stays) = (
   on,

@@ -1,9 +1,9 @@
 -- A property of each ticket that is made or replaces another holds of each ticket in a reachable state: no amount is 0, and
 -- none funds base.
-use Rattle.lot_laws.proofs.Common.{Console, Event, FundsNoBase, HasAmounts, IsInOrder, IsReachable, List, None, Option, SetTicket, Sizes, Some, State, Ticket, ap, arith, at_number, by_event, free_tickets, funding_of, inl, inr, number-placed, number-set, opening, option_flatten, option_map, placed, reached-order, refl, set_number, some-injective, state_after, step, subst, suc, sym, ticket_in, ticket_in-suc, zero, ℕ, [], ◌++◌, ◌-◌, ◌<◌, ◌∙◌, ◌∷◌, ◌≡◌, ◌≢◌, ◌⊎◌}
+use Rattle.lot_laws.proofs.Common.{Event, FundsNoBase, HasAmounts, IsInOrder, IsReachable, List, None, Option, Sizes, Some, State, Ticket, ap, at_number, by_event, free_tickets, funding_of, inl, inr, number-placed, number-set, opening, option_flatten, option_map, placed, reached-order, refl, set_number, some-injective, state_after, step, subst, suc, sym, ticket_in, ticket_in-suc, zero, ℕ, [], ◌++◌, ◌-◌, ◌<◌, ◌∙◌, ◌∷◌, ◌≡◌, ◌≢◌, ◌⊎◌}
 use Rattle.lot_machine.specs.declared.ticket.Target.TheVariants as target
 use Rattle.lot_machine.specs.Change.{DropTicket, NewTicket, PutTicket}
-use Rattle.lot_machine.proofs.StepChanges.{By, IsAmount, Keeps, MayFund, Replaces, kept, step-leads}
+use Rattle.lot_machine.proofs.StepChanges.{By, IsAmount, Keeps, MayFund, Replaces, amount-replaced, kept, step-leads}
 
 -- it holds of each of these tickets
 abbrev pub EachOf : (Ticket → Type 0) → List (Option Ticket) → Type 0
@@ -63,11 +63,7 @@ some-made a t amount may = amount.0
 
 some-replaced : (by : By) (a : State) (n : ℕ) (old new : Ticket) → Replaces by a n old new → HasSome old → HasSome new
 unfolding HasSome
-some-replaced by a n old new replaces some = from replaces.amount
-  where
-    from : (new.amount ≡ old.amount) ⊎ ((by ≡ Console (SetTicket n new.amount)) × IsAmount new.amount) → 0 < new.amount
-    from (inl same) = omega (arith, same, some)
-    from (inr (sets, amount)) = amount.0
+some-replaced by a n old new replaces some = amount-replaced (λ amount. 0 < amount) replaces some (λ amount. amount.0)
 
 pub event-amounts : (s : State) (e : Event) → HasAmounts (funding_of s) → HasAmounts (funding_of (step s e).state)
 unfolding HasSome

@@ -1,8 +1,9 @@
 -- Insulation: the nodes that a change can't affect, and the nodes inside a currency (3.2, 3.3).
 use Rattle.std.specs.Prelude.{◌≡◌, ◌≢◌, ◌⊎◌, ℕ, Bool, true, false, Some, List, option_and_then}
 use Rattle.lot_machine.specs.declared.event.Event.{Event}
-use Rattle.lot_machine.specs.declared.event.Event.TheVariants.{Command}
-use Rattle.lot_machine.specs.declared.command.Command.TheVariants.{RemoveTicket, SetTicket}
+use Rattle.lot_machine.specs.declared.event.Event.TheVariants as event
+use Rattle.lot_machine.specs.declared.command.Command.{Command}
+use Rattle.lot_machine.specs.declared.command.Command.TheVariants.{RemoveTicket}
 use Rattle.lot_machine.specs.declared.ticket.Ticket.{Ticket}
 use Rattle.lot_machine.specs.declared.ticket.Target.TheVariants as target
 use Rattle.lot_machine.specs.declared.reference.TargetRef.{TargetRef}
@@ -12,7 +13,7 @@ use Rattle.lot_machine.specs.Funding.{Funding, ticket_at, target_of, target_node
 use Rattle.lot_machine.specs.Activity.{is_active, active_amount}
 use Rattle.lot_machine.specs.Value.{ticket_value, node_value}
 use Rattle.lot_machine.specs.State.{State, funding_of, live_of}
-use Rattle.lot_machine.specs.Commands.{target_meant}
+use Rattle.lot_machine.specs.Commands.{GivesAmount, target_meant}
 use Rattle.lot_machine.specs.Touched.{PathLeads, IsTouched, IsChangedEdge, IsChangedLife}
 
 -- the ticket with this number has the same amount before and after, if it exists in both
@@ -23,13 +24,13 @@ KeepsAmount before after n = (t u : Ticket) → ticket_at before n ≡ Some t �
 abbrev pub KeepsAmounts : Funding → Funding → Type 0
 KeepsAmounts before after = (n : ℕ) → KeepsAmount before after n
 
--- the event gives the ticket an amount: it is `settkt` of this ticket
+-- the event is a command that gives the ticket an amount
 abbrev pub SetsAmountOf : ℕ → Event → Type 0
-SetsAmountOf n e = (amount : ℕ) × (e ≡ Command (SetTicket n amount))
+SetsAmountOf n e = (c : Command) × (amount : ℕ) × (e ≡ event.Command c) × GivesAmount c n amount
 
 -- the event removes the ticket, unless it is refused
 abbrev pub RemovesTicket : ℕ → Event → Type 0
-RemovesTicket n e = e ≡ Command (RemoveTicket n)
+RemovesTicket n e = e ≡ event.Command (RemoveTicket n)
 
 -- a path, perhaps empty, leads to the node from a node that the change touched
 abbrev pub IsAffected : Funding → Funding → List Bool → List Bool → Node → Type 0

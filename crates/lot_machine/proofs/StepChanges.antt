@@ -1,6 +1,6 @@
 -- Each event is a list of changes, each of which is allowed at its place. So each event preserves what each allowed
 -- change preserves.
-use Rattle.lot_machine.proofs.Common.{Action, After, Alive, All, All-head, All-push, All-set, All-tail, BadAmount, BadName, BadProcessor, BadTicks, BaseFixed, Bool, Busy, Call, Change, Command, CurrencyRef, Cycle, DeadThread, Drawn, DropCurrency, DropThread, DropTicket, Effect, Ends, Event, Exit, Full, Fund, FundsThere, GoesOn, HasEachOnce, HasFreeGaps, HasNoCycle, HasQueues, IfSome, InUse, IsGap, IsWithinBounds, Kill, Leaves, List, Lock, MakeCurrency, MakeFunded, MakeThread, MakeTicket, Mutex, NameTaken, NewCurrency, NewThread, NewTicket, NoCurrency, NoScript, NoTarget, NoThread, NoTicket, None, NotAsleep, NotFunding, NotRunning, Option, Outcome, Port, PortTrap, PutClients, PutMutex, PutPort, PutRecord, PutTicket, QueuedCall, Receive, Record, RemoveCurrency, RemoveThread, RemoveTicket, RunsApart, Serve, SetTicket, Sleep, Some, State, Status, Target, ThreadRef, Ticket, TrapRefusal, Unfund, Unlock, Yield, after_trap, ap, applied, applied_all, are_threads_full, are_tickets_full, arith, at_number, at_port, backing_currency, before_lock, call, cases_eq, change_each, change_record, checked_effect, clients_of, command_effect, command_step, compensation_for, cond, currency_funded, currency_meant, currency_or_base, draw, drop, ended, event_effect, false, first_client, free_currencies, free_threads, free_tickets, funding_of, given_again, held_by, holder_of, inl, inr, is_asleep, is_bad_amount, is_bad_processor, is_currency, is_cycle, is_dead, is_dead_in, is_dead_thread, is_funding, is_in_use, is_no_script, is_none, is_none_free, is_some, is_taken, is_thread_in_use, is_thread_name, issued_in, killed, leads_back, leb-false, lend_of, lends_lead, lends_on_to, length, length-append, length-set, lock, ltb-false, map, map-set, mutex_at, mutex_without, nat_le, nat_lt, newborn, next_thread, not, of_mutexes, of_ports, option_and_then, option_any, option_flatten, option_map, or_parts, placed, port_at, port_holders, port_without, ready_threads, receive, refl, reissued, released, released_by, remove, reply, retargeted, serve, served_at, set_number, slice_get, slice_get-map, slice_index, slice_set, started, status_of, step, stopped, subst, suc, sym, target_meant, thread_at, thread_meant, thread_on, thread_there, ticket_in, trap_effect, trap_refusal, true, unlock, unserved, unserved_at, unwrap_or, used_by, used_on, used_there, value_of, wake, weight_of, winner, with_server, with_target, with_ticks, without, zero, ℕ, [], ◌&&◌, ◌++◌, ◌+◌, ◌-◌, ◌<◌, ◌==◌, ◌^◌, ◌||◌, ◌∙◌, ◌∷◌, ◌≡◌, ◌≤◌, ◌⊎◌}
+use Rattle.lot_machine.proofs.Common.{Action, After, Alive, All, All-head, All-push, All-set, All-tail, BadAmount, BadName, BadProcessor, BadTicks, BaseFixed, Bool, Busy, Call, Change, Command, CurrencyRef, Cycle, DeadThread, Drawn, DropCurrency, DropThread, DropTicket, Effect, Ends, Event, Exit, Full, Fund, FundsThere, GoesOn, HasEachOnce, HasFreeGaps, HasNoCycle, HasQueues, IfSome, InUse, IsGap, IsWithinBounds, Kill, Leaves, List, Lock, MakeCurrency, MakeFunded, MakeThread, MakeTicket, Mutex, NameTaken, NewCurrency, NewThread, NewTicket, NoCurrency, NoScript, NoTarget, NoThread, NoTicket, None, NotAsleep, NotFunding, NotRunning, Option, Outcome, Port, PortTrap, PutClients, PutMutex, PutPort, PutRecord, PutTicket, QueuedCall, Receive, Record, RemoveCurrency, RemoveThread, RemoveTicket, RunsApart, Serve, SetTicket, Some, State, Status, Target, ThreadRef, Ticket, TrapRefusal, Unfund, Unlock, after_trap, ap, applied, applied_all, are_threads_full, are_tickets_full, arith, at_number, at_port, backing_currency, before_lock, call, cases_eq, change_each, change_record, checked_effect, clients_of, command_effect, command_step, compensation_for, cond, currency_funded, currency_meant, currency_or_base, draw, drop, ended, event_effect, false, first_client, free_currencies, free_threads, free_tickets, funding_of, given_again, held_by, holder_of, inl, inr, is_asleep, is_bad_amount, is_bad_processor, is_currency, is_cycle, is_dead, is_dead_in, is_dead_thread, is_funding, is_in_use, is_no_script, is_none, is_none_free, is_some, is_taken, is_thread_in_use, is_thread_name, issued_in, killed, leads_back, leb-false, lend_of, lends_lead, lends_on_to, length, length-append, length-set, lock, ltb-false, map, map-set, mutex_at, mutex_without, nat_le, nat_lt, newborn, next_thread, not, of_mutexes, of_ports, option_and_then, option_any, option_flatten, option_map, or_parts, placed, port_at, port_holders, port_without, ready_threads, receive, refl, reissued, released, released_by, remove, reply, retargeted, serve, served_at, set_number, slice_get, slice_get-map, slice_index, slice_set, started, status_of, step, stopped, subst, suc, sym, target_meant, thread_at, thread_meant, thread_on, thread_there, ticket_in, trap_effect, trap_refusal, true, unlock, unserved, unserved_at, unwrap_or, used_by, used_on, used_there, value_of, wake, weight_of, winner, with_server, with_target, with_ticks, without, zero, ℕ, [], ◌&&◌, ◌++◌, ◌+◌, ◌-◌, ◌<◌, ◌==◌, ◌^◌, ◌||◌, ◌∙◌, ◌∷◌, ◌≡◌, ◌≤◌, ◌⊎◌}
 use Rattle.lot_machine.specs.declared.ticket.Target.TheVariants as target
 use Rattle.lot_machine.specs.declared.record.Status.TheVariants as status
 use Rattle.lot_machine.specs.declared.record.Thread.{Thread as ThreadRecord}
@@ -8,7 +8,7 @@ use Rattle.lot_machine.specs.declared.funding.Node.TheVariants as node
 use Rattle.lot_machine.specs.declared.reference.TargetRef.{TargetRef}
 use Rattle.lot_machine.specs.Funding.{edge_count_into}
 use Rattle.lot_machine.specs.Places.{next_place}
-use Rattle.lot_machine.specs.Commands.{with_thread}
+use Rattle.lot_machine.specs.Commands.{GivesAmount, with_thread}
 use Rattle.std.proofs.lemmas.Bool.{eqb-false}
 use Rattle.std.specs.Prelude.{◌≢◌}
 use Rattle.lot_machine.specs.declared.trap.Trap.TheVariants.{Reply as ReplyTo}
@@ -101,12 +101,24 @@ IsIn threads t = ¬ (at_number threads t ≡ Some None)
 abbrev pub MayFund : State → Target → Type 0
 MayFund a to = (to ≢ target.Currency 0) × ((t : ℕ) → to ≡ target.Thread t → IsIn a.threads t)
 
+-- a command of the console gives the ticket this amount
+abbrev pub Gives : By → ℕ → ℕ → Type 0
+Gives by n amount = (c : Command) × (by ≡ Console c) × GivesAmount c n amount
+
 -- A ticket replaces the ticket with this number. It has the same issuer, and the same target or another that it may fund; only
--- `settkt` of the ticket gives it another amount.
+-- a command gives it another amount.
 pub record Replaces (by : By) (a : State) (n : ℕ) (old new : Ticket) : Type 0 where
   pub issuer : new.issuer ≡ old.issuer
   pub aim : (new.target ≡ old.target) ⊎ MayFund a new.target
-  pub amount : (new.amount ≡ old.amount) ⊎ ((by ≡ Console (SetTicket n new.amount)) × IsAmount new.amount)
+  pub amount : (new.amount ≡ old.amount) ⊎ (Gives by n new.amount × IsAmount new.amount)
+
+-- what holds of the amount of a ticket, and of each amount that a command may give, holds of the amount of what replaces it
+pub amount-replaced : {by : By} {a : State} {n : ℕ} {old new : Ticket} (IsSo : ℕ → Type 0) → Replaces by a n old new → IsSo old.amount → (IsAmount new.amount → IsSo new.amount) → IsSo new.amount
+amount-replaced {by} {a} {n} {old} {new} IsSo replaces was given = from replaces.amount
+  where
+    from : (new.amount ≡ old.amount) ⊎ (Gives by n new.amount × IsAmount new.amount) → IsSo new.amount
+    from (inl same) = subst IsSo (sym same) was
+    from (inr (gives, good)) = given good
 
 -- a ticket is there, and what comes in its place replaces it
 abbrev pub Puts : By → State → ℕ → Option Ticket → Type 0
@@ -290,11 +302,10 @@ change-room by s a (NewTicket t) (console, (some, small), free, _, _, _) (amount
     few-placed (inr same) = omega (arith, few, same)
 change-room by s a (DropTicket n) allowed (amounts, few, bounds) = (All-set HasAmount a.tickets (n - 1) None tt amounts, omega (arith, few, length-set a.tickets (n - 1) None), bounds)
 change-room by s a (PutTicket n place) (console, funded, (old, new, is, now, replaces)) (amounts, few, bounds) =
-    (All-set HasAmount a.tickets (n - 1) place (subst HasAmount (sym now) (small replaces.amount)) amounts, omega (arith, few, length-set a.tickets (n - 1) place), bounds)
+    (All-set HasAmount a.tickets (n - 1) place (subst HasAmount (sym now) small) amounts, omega (arith, few, length-set a.tickets (n - 1) place), bounds)
   where
-    small : (new.amount ≡ old.amount) ⊎ ((by ≡ Console (SetTicket n new.amount)) × IsAmount new.amount) → new.amount < 2 ^ 32
-    small (inl same) = let was : old.amount < 2 ^ 32 = subst HasAmount is (amount-in a.tickets n amounts) in omega (arith, same, was)
-    small (inr (sets, good)) = good.1
+    small : new.amount < 2 ^ 32
+    small = amount-replaced (λ amount. amount < 2 ^ 32) replaces (subst HasAmount is (amount-in a.tickets n amounts)) (λ good. good.1)
 change-room by s a other allowed room = room
 
 -- the same limits, and as many more records as threads
@@ -582,7 +593,7 @@ command-leads s (SetTicket n amount) =
     Then Stays (PutTicket n (option_map (reissued amount) (ticket_in s.tickets n))) (
       refl,
       λ (cycle, funds). (HasNoCycle-amount (funding_of s) n amount place there cycle, FundsThere-amount (funding_of s) n amount place there funds),
-      (t, reissued amount t, is, ap (option_map (reissued amount)) is, record { issuer = refl; aim = inl refl; amount = inr (refl, amount-of amount passed.0) }),
+      (t, reissued amount t, is, ap (option_map (reissued amount)) is, record { issuer = refl; aim = inl refl; amount = inr ((SetTicket n amount, refl, refl), amount-of amount passed.0) }),
     ))
 command-leads s (MakeThread name script) =
     unrefused (Leads (Console _) s) s _ (command_effect s (MakeThread name script)) Stays (λ _. Then Stays (NewThread (record { name = name; script = script })) (refl, free-dead s))
@@ -822,7 +833,6 @@ before-lock-leads s t m = at (option_any (λ owner. lends_on_to (funding_of s) o
     at false = Stays
 
 pub effect-leads : (s : State) (t : ℕ) (action : Action) → Works s (trap_effect s t action)
-effect-leads s t Yield = (Stays, ready-stops)
 effect-leads s t (Call port number) = port-leads s t port (call s.records s.clients s.ports t port number) (call-leads s t port number)
 effect-leads s t (Receive port) =
     port-leads s t port (receive s.records s.clients s.ports t port)
@@ -835,8 +845,8 @@ effect-leads s t (Serve port number) =
     kept (λ a. used_by a.records p first.caller ≡ used_by s.records p first.caller) (change-used Work s p first.caller queues (λ e. cc) (λ e. cc) (λ e. cc)) replied refl ∙ caller-used s.records s.clients s.ports s.mutexes queues p port first others is))
 effect-leads s t (Lock m) = lock-leads (record s { mutexes = before_lock s t m }) t m (before-lock-leads s t m)
 effect-leads s t (Unlock m d) = unlock-leads s (value_of s) m d
-effect-leads s t (Sleep n) = (Stays, λ p used e. cc)
 effect-leads s t Exit = (unserved-leads (λ server. server == t) s (port_holders s.limits) (λ same. cc) Stays, tt)
+effect-leads s t other = (Stays, λ p used e. cc)
 
 pub checked-leads : (s : State) (t : ℕ) (action : Action) (o : Option TrapRefusal) → Works s (checked_effect s o (trap_effect s t action))
 checked-leads s t action None = effect-leads s t action

@@ -1,61 +1,11 @@
--- A command as a verb with arguments.
-use Rattle.std.specs.Prelude.{ℕ, Option, Some, None, Result, Ok, Err, List, [], ◌∷◌, map, unwrap_or}
+-- A command read as a verb with arguments one after the other, and written as one.
+use Rattle.std.specs.Prelude.{ℕ, Option, Result, Ok, Err, List, [], ◌∷◌, map, unwrap_or}
+use Rattle.lot_machine.specs.declared.arguments.Slot.{Slot}
 use Rattle.lot_machine.specs.declared.command.Command.{Command}
-use Rattle.lot_machine.specs.declared.command.Command.TheVariants as command
-use Rattle.lot_machine.specs.declared.verb.Slot.{Slot}
-use Rattle.lot_machine.specs.declared.verb.Slot.TheVariants as slot
-use Rattle.lot_machine.specs.declared.verb.Verb.{Verb}
-use Rattle.lot_machine.specs.declared.verb.Verb.TheVariants as verb
+use Rattle.lot_machine.specs.declared.command.Verb.{Verb}
 use Rattle.lot_machine.specs.Arguments.{Value}
 use Rattle.lot_machine.specs.Arguments as value
-
--- the kinds of the arguments that a verb takes
-abbrev pub form : Verb → List Slot
-form verb.MakeTicket = slot.Amount ∷ slot.Currency ∷ []
-form verb.RemoveTicket = slot.Ticket ∷ []
-form verb.MakeCurrency = slot.Name ∷ []
-form verb.RemoveCurrency = slot.Currency ∷ []
-form verb.Fund = slot.Ticket ∷ slot.Target ∷ []
-form verb.Unfund = slot.Ticket ∷ []
-form verb.SetTicket = slot.Ticket ∷ slot.Amount ∷ []
-form verb.MakeThread = slot.Name ∷ slot.Script ∷ []
-form verb.RemoveThread = slot.Thread ∷ []
-form verb.Kill = slot.Thread ∷ []
-form verb.MakeFunded = slot.Amount ∷ slot.Currency ∷ slot.Name ∷ slot.Script ∷ []
-form (verb.List kind) = []
-
--- the command with this verb and these arguments, if the verb takes them
-abbrev pub command_from : Verb → List Value → Option Command
-command_from verb.MakeTicket (value.Amount a ∷ value.Currency c ∷ []) = Some (command.MakeTicket a c)
-command_from verb.RemoveTicket (value.Ticket t ∷ []) = Some (command.RemoveTicket t)
-command_from verb.MakeCurrency (value.Name name ∷ []) = Some (command.MakeCurrency name)
-command_from verb.RemoveCurrency (value.Currency c ∷ []) = Some (command.RemoveCurrency c)
-command_from verb.Fund (value.Ticket t ∷ value.Target to ∷ []) = Some (command.Fund t to)
-command_from verb.Unfund (value.Ticket t ∷ []) = Some (command.Unfund t)
-command_from verb.SetTicket (value.Ticket t ∷ value.Amount a ∷ []) = Some (command.SetTicket t a)
-command_from verb.MakeThread (value.Name name ∷ value.Script s ∷ []) = Some (command.MakeThread name s)
-command_from verb.RemoveThread (value.Thread t ∷ []) = Some (command.RemoveThread t)
-command_from verb.Kill (value.Thread t ∷ []) = Some (command.Kill t)
-command_from verb.MakeFunded (value.Amount a ∷ value.Currency c ∷ value.Name name ∷ value.Script s ∷ []) = Some (command.MakeFunded a c name s)
-command_from (verb.List kind) [] = Some (command.List kind)
-command_from v other = None
-
--- the verb and the arguments of a command
-abbrev pub parts : Command → Verb × List Value
-parts (command.MakeTicket a c) = (verb.MakeTicket, value.Amount a ∷ value.Currency c ∷ [])
-parts (command.RemoveTicket t) = (verb.RemoveTicket, value.Ticket t ∷ [])
-parts (command.MakeCurrency name) = (verb.MakeCurrency, value.Name name ∷ [])
-parts (command.RemoveCurrency c) = (verb.RemoveCurrency, value.Currency c ∷ [])
-parts (command.Fund t to) = (verb.Fund, value.Ticket t ∷ value.Target to ∷ [])
-parts (command.Unfund t) = (verb.Unfund, value.Ticket t ∷ [])
-parts (command.SetTicket t a) = (verb.SetTicket, value.Ticket t ∷ value.Amount a ∷ [])
-parts (command.MakeThread name s) = (verb.MakeThread, value.Name name ∷ value.Script s ∷ [])
-parts (command.RemoveThread t) = (verb.RemoveThread, value.Thread t ∷ [])
-parts (command.Kill t) = (verb.Kill, value.Thread t ∷ [])
-parts (command.MakeFunded a c name s) = (verb.MakeFunded, value.Amount a ∷ value.Currency c ∷ value.Name name ∷ value.Script s ∷ [])
-parts (command.List kind) = (verb.List kind, [])
-
--- ---- arguments one after the other
+use Rattle.lot_machine.specs.Commands.{command_from, form, parts}
 
 infixl 10 ◌>>=◌
 -- continues with the value; a refusal stops here

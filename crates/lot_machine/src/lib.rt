@@ -4,6 +4,7 @@
 #![tactic(auto)]
 
 mod after;
+mod arguments;
 mod command;
 mod drawn;
 mod event;
@@ -23,11 +24,11 @@ mod row;
 mod sizes;
 mod ticket;
 mod trap;
-mod verb;
 pub mod worked;
 
 pub use after::After;
-pub use command::{Command, Kind};
+pub use arguments::{Arguments, Sink, Slot};
+pub use command::{Command, Kind, Verb, command_of, form_of, give_parts};
 pub use drawn::Drawn;
 pub use event::Event;
 pub use funding::{Edge, Lend, Node};
@@ -44,4 +45,3 @@ pub use row::{CurrencyRow, ThreadRow, TicketRow};
 pub use sizes::Sizes;
 pub use ticket::{Target, Ticket};
 pub use trap::{Action, ScriptTrap, Trap, TrapWord};
-pub use verb::{Arguments, Sink, Slot, Verb, command_of, form_of, give_parts};

@@ -30,7 +30,5 @@ pub use Rattle.lot_simulation.specs.declared.input.InputRefusal.{InputRefusal}
 pub use Rattle.lot_simulation.specs.declared.separators.Separators.TheVariants.{Spaces}
 pub use Rattle.lot_io.proofs.WritingFacts.{appends-both, begins-after, begins-front, writes-after}
 pub use Rattle.lot_io.specs.Writing.{Begins, IsPut, Written}
-pub use Rattle.lot_print.specs.Listings.{used_text}
 pub use Rattle.lot_print.specs.Readback.{HasRoom, IsReadAs}
-pub use Rattle.lot_print.specs.Totals.{total_line}
 pub use Rattle.lot_print.specs.declared.line.TheConstants.{PAIRS}

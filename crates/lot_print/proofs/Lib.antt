@@ -1,11 +1,10 @@
 pub mod Common
+pub mod ColumnFacts
 pub mod GroupLemmas
 pub mod HistoryBack
-pub mod NameFacts
 pub mod PageFacts
 pub mod Pairs
 pub mod PlainLemmas
-pub mod Pushed
 pub mod ReadBack
 pub mod RunLemmas
 pub mod RunsBack

@@ -1,113 +1,95 @@
--- The lines of a report over several plays.
-use Rattle.std.specs.Prelude.{ℕ, ◌*◌, ◌==◌, List, [], ◌++◌, codes, if◌then◌else◌}
+-- The lines and rows of a report over several plays.
+use Rattle.std.specs.Prelude.{ℕ, ◌/◌, ◌==◌, Bool, true, not, ◌||◌, Option, Some, None, List, [], ◌++◌, codes, flat_map, zip, if◌then◌else◌}
+use Rattle.std.specs.List.{list_all, range_with_len}
 use Rattle.std.specs.Fmt.{decimal}
-use Rattle.lot_simulation.specs.Texts.{newline, quotient_text}
+use Rattle.lot_simulation.specs.Columns.{Row, columns_in, columns_of, further_lines, heading, sign, thousandths_text}
+use Rattle.lot_simulation.specs.Texts.{newline}
+use Rattle.lot_simulation.specs.declared.columns.Subject.{Subject}
+use Rattle.lot_simulation.specs.declared.columns.Table.{Table}
+use Rattle.lot_simulation.specs.declared.columns.Unit.{Unit}
+use Rattle.lot_simulation.specs.declared.columns.Unit.TheVariants.{End, Mean, One, Percent}
 use Rattle.lot_print.specs.declared.figures.Figures.{Figures}
-use Rattle.lot_print.specs.declared.figures.ProcessorFigures.{ProcessorFigures}
-use Rattle.lot_print.specs.declared.figures.WholeFigures.{WholeFigures}
 use Rattle.lot_print.specs.declared.figures.Spread.{Spread}
-use Rattle.lot_print.specs.declared.figures.Subject.{Subject}
-use Rattle.lot_print.specs.declared.figures.Subject.TheVariants.{Thread, Currency}
-use Rattle.lot_print.specs.declared.figures.Unit.{Unit}
-use Rattle.lot_print.specs.declared.figures.Unit.TheVariants.{One, PercentThousandth, Thousandth}
-use Rattle.lot_print.specs.declared.figures.SpanFigures.{SpanFigures}
 
--- a figure divided by this number
-abbrev pub figure_text : Unit → ℕ → ℕ → List ℕ
-figure_text One figure parts = quotient_text figure parts
-figure_text Thousandth figure parts = quotient_text figure (parts * 1000)
-figure_text PercentThousandth figure parts = quotient_text figure (parts * 1000) ++ codes "%"
+-- ---- a figure
 
--- a word, and the mean, the least and the most of a figure over the plays that have it; nothing if none has
-unfoldable pub spread_text : List ℕ → Unit → Spread → List ℕ
-spread_text what unit spread =
+-- a column's word: a mean of a play is called its average
+abbrev pub plays_word : Unit → List ℕ → List ℕ
+plays_word One word = word
+plays_word Mean word = codes "average"
+plays_word Percent word = word
+plays_word End word = word
+
+-- after the figures of an end, the number of plays in which it came
+abbrev pub plays_with : Unit → ℕ → ℕ → List ℕ
+plays_with One count plays = []
+plays_with Mean count plays = []
+plays_with Percent count plays = []
+plays_with End count plays = codes " in " ++ (decimal count ++ (codes " of " ++ decimal plays))
+
+-- a word, and then a figure with its sign
+abbrev pub figure_text : List ℕ → Unit → ℕ → List ℕ
+figure_text word unit n = word ++ (thousandths_text n ++ sign unit)
+
+-- the mean, the least and the most of a column's figures over the plays that have one; nothing if none has
+unfoldable pub spread_text : ℕ → Row → Spread → List ℕ
+spread_text plays column spread =
     if spread.plays == 0 then []
-    else what ++ (codes " mean " ++ (figure_text unit spread.sum spread.plays ++ (codes " least " ++ (figure_text unit spread.least 1 ++ (codes " most " ++ figure_text unit spread.most 1)))))
+    else codes " " ++ (plays_word column.unit column.word ++ (figure_text (codes " mean ") column.unit (spread.sum / spread.plays)
+    ++ (figure_text (codes " least ") column.unit spread.least ++ (figure_text (codes " most ") column.unit spread.most
+    ++ plays_with column.unit spread.plays plays))))
 
--- the start of a line: its subject, and the subject's name
-abbrev pub subject_text : Subject → ℕ → Figures → List ℕ
-subject_text Thread n figures = codes "thread " ++ (decimal n ++ (codes " " ++ figures.name))
-subject_text Currency n figures = codes "currency " ++ (decimal n ++ (codes " " ++ figures.name))
+-- the same in a row of a table: three fields, which are empty if no play has such a figure
+unfoldable pub spread_fields : Spread → List ℕ
+spread_fields spread =
+    if spread.plays == 0 then codes ",,,"
+    else codes "," ++ (thousandths_text (spread.sum / spread.plays) ++ (codes "," ++ (thousandths_text spread.least ++ (codes "," ++ thousandths_text spread.most))))
 
--- a thread's draws and ticks, or the ticks of the threads below a currency, and their share of all ticks
-unfoldable pub counts_text : Figures → List ℕ
-counts_text figures =
-    spread_text (codes " quanta") One figures.quanta ++ (spread_text (codes " ticks") One figures.ticks
-    ++ spread_text (codes " share") PercentThousandth figures.share)
+-- a column's figures in the line with this number, which may be another's; or in a row, which has all columns
+abbrev pub spread_in : Option ℕ → ℕ → Row → Spread → List ℕ
+spread_in None plays column spread = spread_fields spread
+spread_in (Some line) plays column spread = if column.line == line then spread_text plays column spread else []
 
--- the share due to the thread or the currency, and the thread's share of the live value
-unfoldable pub dues_text : Figures → List ℕ
-dues_text figures =
-    spread_text (codes " due") PercentThousandth figures.due ++ spread_text (codes " value") PercentThousandth figures.value
+-- the figures in a line or in a row
+abbrev pub spreads_text : Option ℕ → ℕ → List Row → List Spread → List ℕ
+spreads_text line plays columns spreads = flat_map (λ pair. spread_in line plays pair.0 pair.1) (zip columns spreads)
 
--- the first line: the number of plays that ended with the thread or the currency, its counts, and its due share
-unfoldable pub shares_line : Subject → ℕ → Figures → List ℕ
-shares_line subject n figures =
-    subject_text subject n figures ++ (codes " plays " ++ (decimal figures.plays
-    ++ (counts_text figures ++ (dues_text figures ++ newline))))
+-- ---- lines
 
--- the line for waits of one kind: their number, their mean in a play, and the longest of a play; nothing if there was no
--- such wait
-unfoldable pub waits_line : Subject → ℕ → Figures → List ℕ → SpanFigures → List ℕ
-waits_line subject n figures what waits =
-    if waits.longest.plays == 0 then []
-    else subject_text subject n figures ++ (what ++ (spread_text (codes " waits") One waits.count
-    ++ (spread_text (codes " average") Thousandth waits.mean
-    ++ (spread_text (codes " longest") One waits.longest ++ newline))))
+-- whether a play's report tells each figure of this line
+abbrev pub tells_all : ℕ → List Row → List Spread → Bool
+tells_all line columns spreads = list_all (λ pair. not (pair.0.line == line) || pair.1.told) (zip columns spreads)
 
--- the line for refused traps; nothing if there was none
-unfoldable pub refused_line : Subject → ℕ → Figures → List ℕ
-refused_line subject n figures =
-    if figures.refused.most == 0 then []
-    else subject_text subject n figures ++ (spread_text (codes " refused") One figures.refused ++ newline)
+-- the number of plays that ended with the subject
+abbrev pub plays_text : ℕ → List ℕ
+plays_text plays = codes " plays " ++ decimal plays
 
--- The line for lives: the times at which the thread was made and ended, and the number of plays in which it ended;
--- nothing if it ended in none.
-unfoldable pub life_line : Subject → ℕ → Figures → List ℕ
-life_line subject n figures =
-    if figures.ended.plays == 0 then []
-    else subject_text subject n figures ++ (spread_text (codes " made") One figures.made
-    ++ (spread_text (codes " ended") One figures.ended
-    ++ (codes " in " ++ (decimal figures.ended.plays ++ (codes " of " ++ (decimal figures.plays ++ newline))))))
+-- the first line
+unfoldable pub first_line : Subject → ℕ → Figures → List ℕ
+first_line subject n figures =
+    heading subject n figures.name
+    ++ (plays_text figures.plays ++ (spreads_text (Some 0) figures.plays (columns_of subject) figures.spreads ++ newline))
 
--- all lines of a thread or a currency
+-- another line; nothing if some figure of it is told by no play
+unfoldable pub further_line : Subject → ℕ → Figures → ℕ → List ℕ
+further_line subject n figures line =
+    if tells_all line (columns_of subject) figures.spreads
+    then heading subject n figures.name ++ (spreads_text (Some line) figures.plays (columns_of subject) figures.spreads ++ newline)
+    else []
+
+-- all lines of a subject
 abbrev pub figures_lines : Subject → ℕ → Figures → List ℕ
 figures_lines subject n figures =
-    shares_line subject n figures ++ (waits_line subject n figures (codes " ready") figures.ready
-    ++ (waits_line subject n figures (codes " mutex") figures.mutexes
-    ++ (waits_line subject n figures (codes " reply") figures.replies
-    ++ (refused_line subject n figures ++ life_line subject n figures))))
+    first_line subject n figures ++ flat_map (further_line subject n figures) (range_with_len 1 (further_lines subject))
 
--- a processor's draws, its idle draws, the ticks used there, and its idle ticks
-unfoldable pub processor_counts : ProcessorFigures → List ℕ
-processor_counts figures =
-    spread_text (codes " quanta") One figures.quanta ++ (spread_text (codes " idle") One figures.idles
-    ++ (spread_text (codes " ticks") One figures.ticks ++ spread_text (codes " unused") One figures.unused))
-
--- a processor's line
-abbrev pub processor_figures_line : ℕ → ProcessorFigures → List ℕ
-processor_figures_line p figures =
-    codes "processor " ++ (decimal p ++ (codes " plays " ++ (decimal figures.plays ++ (processor_counts figures ++ newline))))
-
--- the turns of all actors, the draws, the ticks, and the commands refused and never made
-unfoldable pub whole_counts : WholeFigures → List ℕ
-whole_counts figures =
-    spread_text (codes " turns") One figures.turns ++ (spread_text (codes " quanta") One figures.quanta
-    ++ (spread_text (codes " ticks") One figures.ticks ++ (spread_text (codes " refused") One figures.refused
-    ++ spread_text (codes " left") One figures.left)))
-
--- the threads that have ended, the mean of their lives in a play, and the longest in a play; nothing if none has
-unfoldable pub lives_line : SpanFigures → List ℕ
-lives_line lives =
-    if lives.longest.plays == 0 then []
-    else codes "total" ++ (spread_text (codes " ended") One lives.count
-    ++ (spread_text (codes " average") Thousandth lives.mean ++ (spread_text (codes " longest") One lives.longest ++ newline)))
-
--- the last lines: the totals
-abbrev pub whole_figures_lines : WholeFigures → List ℕ
-whole_figures_lines figures =
-    codes "total plays " ++ (decimal figures.plays ++ (whole_counts figures ++ (newline ++ lives_line figures.lives)))
-
--- the first line: the first and the last seed
+-- the first line of the report: the first and the last seed
 abbrev pub seeds_line : ℕ → ℕ → List ℕ
 seeds_line first last = codes "seeds " ++ (decimal first ++ (codes " to " ++ (decimal last ++ newline)))
+
+-- ---- rows
+
+-- the row of a thread or a currency in this table, which begins with the number of plays that ended with it
+unfoldable pub figures_record : Table → ℕ → Figures → List ℕ
+figures_record table n figures =
+    decimal n ++ (codes "," ++ (figures.name ++ (codes "," ++ (decimal figures.plays
+    ++ (spreads_text None figures.plays (columns_in table true) figures.spreads ++ newline)))))

@@ -1,8 +1,7 @@
 pub mod Listings
 pub mod Readback
-pub mod Totals
+pub mod Room
 pub mod Lots
 pub mod Loans
 pub mod Funds
 pub mod Figures
-pub mod TableRows

@@ -1,26 +1,28 @@
-//! The lines of a report over several plays.
-ghost use Rattle.std.specs.Prelude.{◌≡◌, ◌<◌, ◌≤◌, ◌+◌, ◌++◌, codes, false, length};
-ghost use Rattle.lot_print.specs.Figures.{counts_text, dues_text, figure_text, figures_lines, life_line};
-ghost use Rattle.lot_print.specs.Figures.{lives_line, processor_counts, processor_figures_line, refused_line};
-ghost use Rattle.lot_print.specs.Figures.{seeds_line, shares_line, spread_text, subject_text, waits_line};
-ghost use Rattle.lot_print.specs.Figures.{whole_counts, whole_figures_lines};
+//! The lines and rows of a report over several plays.
+ghost use Rattle.std.specs.Prelude.{◌≡◌, ◌≤◌, ◌+◌, ◌*◌, ◌++◌, false, flat_map, length, map};
+ghost use Rattle.std.specs.List.{range_with_len};
+ghost use Rattle.lot_simulation.specs.Columns as columns;
+ghost use Rattle.lot_simulation.specs.Columns.{row_of};
+ghost use Rattle.lot_print.specs.Figures as figures_of;
+ghost use Rattle.lot_print.specs.Figures.{figures_lines, figures_record, plays_with, seeds_line};
+ghost use Rattle.lot_print.specs.Figures.{spread_fields, spread_in, spread_text, spreads_text};
+ghost use Rattle.lot_print.specs.Room.{AreShort, IsShort, cell_room};
 ghost use Rattle.lot_io.specs.Writing.{Writes};
 
-use crate::lengths::FIGURES_LINES;
-use crate::line::Line;
-use crate::rows::push_named;
+use crate::cells::{ReportLine, push_heading, push_numbered, push_signed};
+use crate::line::{Line, RowLine};
 use lot_io::{IoFault, Watched};
 use lot_machine::Name;
+use lot_simulation::{COLUMNS, Column, Subject, Table, Unit};
 use std::io::Write;
 
-/// Lines of a report over several plays.
-type FiguresLines = Line<FIGURES_LINES>;
-
-/// A figure over several plays.
+/// A figure over several plays, in thousandths of its unit.
 #[derive(Clone, Copy)]
 pub struct Spread {
     /// The number of plays that have the figure.
     pub plays: u64,
+    /// Whether the line of one of them tells it.
+    pub told: bool,
     /// The sum, which saturates at the largest `u128`.
     pub sum: u128,
     /// The least, or 0 if no play has the figure.
@@ -29,101 +31,19 @@ pub struct Spread {
     pub most: u128,
 }
 
-/// The unit in which a figure is stored.
-#[derive(Clone, Copy)]
-pub enum Unit {
-    /// One.
-    One,
-    /// A thousandth.
-    Thousandth,
-    /// A thousandth of a percent.
-    PercentThousandth,
-}
-
-/// Spans of time over several plays: a thread's waits of one kind, or the lives of threads.
-#[derive(Clone, Copy)]
-pub struct SpanFigures {
-    /// The number of spans.
-    pub count: Spread,
-    /// The mean of a play's spans, in thousandths of a tick; a play without such spans has none.
-    pub mean: Spread,
-    /// The longest of a play's spans, in ticks; a play without such spans has none.
-    pub longest: Spread,
-}
-
-/// The figures of a thread or a currency over several plays. Only timed reports have the figures from `due` on, and for
-/// currencies they have `ticks`, `share` and `due` alone. A figure that the reports don't have counts no play.
+/// The figures of a subject over several plays.
 #[derive(Drop)]
 pub struct Figures {
-    /// The name at the end of the last play that ended with the thread or the currency.
+    /// The name at the end of the last play that ended with the subject; no bytes if it has no name.
     pub name: Name,
-    /// The number of plays that ended with the thread or the currency.
+    /// The number of plays that ended with the subject.
     pub plays: u64,
-    /// The draws won.
-    pub quanta: Spread,
-    /// The ticks of the thread, or of the threads below the currency.
-    pub ticks: Spread,
-    /// Their share of the ticks of all threads, in thousandths of a percent.
-    pub share: Spread,
-    /// Its due share of the time, in thousandths of a percent.
-    pub due: Spread,
-    /// Its share of the live value at the end, in thousandths of a percent.
-    pub value: Spread,
-    /// Its waits to run, for mutexes and for replies.
-    pub ready: SpanFigures,
-    pub mutexes: SpanFigures,
-    pub replies: SpanFigures,
-    /// The number of its refused traps.
-    pub refused: Spread,
-    /// The time at which it was made, in ticks.
-    pub made: Spread,
-    /// The time at which it ended, in ticks; a play in which it didn't end has none.
-    pub ended: Spread,
+    /// The figures of its columns, and of no play after them.
+    pub spreads: [Spread; COLUMNS],
 }
 
-/// A processor's figures over several plays.
-#[derive(Clone, Copy)]
-pub struct ProcessorFigures {
-    /// The number of plays.
-    pub plays: u64,
-    /// The draws won.
-    pub quanta: Spread,
-    /// The idle draws.
-    pub idles: Spread,
-    /// The ticks used there.
-    pub ticks: Spread,
-    /// The ticks in which it was idle.
-    pub unused: Spread,
-}
-
-/// The figures of all actors over several plays.
-#[derive(Clone, Copy)]
-pub struct WholeFigures {
-    /// The number of plays.
-    pub plays: u64,
-    /// The turns.
-    pub turns: Spread,
-    /// The draws won.
-    pub quanta: Spread,
-    /// The ticks used.
-    pub ticks: Spread,
-    /// The refused commands.
-    pub refused: Spread,
-    /// The commands never made.
-    pub left: Spread,
-    /// The lives of the threads that have ended.
-    pub lives: SpanFigures,
-}
-
-/// The subject of a report's lines: a thread or a currency.
-#[derive(Clone, Copy)]
-pub enum Subject {
-    Thread,
-    Currency,
-}
-
-/// Writes the lines of the thread or the currency with this number in a report over several plays. Fails with `Write`
-/// if the writer fails.
+/// Writes the lines of the subject with this number in a report over several plays. Fails with `Write` if the writer
+/// fails.
 pub fn write_figures<W: Write>(
     writer: &mut Watched<W>,
     subject: Subject,
@@ -133,273 +53,230 @@ pub fn write_figures<W: Write>(
     requires { writer.old.failed ≡ false }
     ensures { Writes W.contents writer.old writer.new result (figures_lines subject number figures.now) }
 {
-    lines_of(subject, number, figures).write_to(writer)
+    first_line(subject, number, figures).write_to(writer)?;
+    write_further(writer, subject, number, figures)
 }
 
-/// The lines of the thread or the currency with this number in a report over several plays.
-fn lines_of(subject: Subject, number: u32, figures: &Figures) -> FiguresLines
-    ensures { result ≡ figures_lines subject number figures.now }
-{
-    let mut lines = FiguresLines::new();
-    push_shares(&mut lines, subject, number, figures);
-    push_waits(
-        &mut lines,
-        subject,
-        number,
-        figures,
-        " ready",
-        figures.ready,
-    );
-    push_waits(
-        &mut lines,
-        subject,
-        number,
-        figures,
-        " mutex",
-        figures.mutexes,
-    );
-    push_waits(
-        &mut lines,
-        subject,
-        number,
-        figures,
-        " reply",
-        figures.replies,
-    );
-    push_refused(&mut lines, subject, number, figures);
-    push_life(&mut lines, subject, number, figures);
-    lines
-}
-
-/// Appends the first line: the number of plays, the ticks and draws, and the share due.
-#[tactic(auto, unfolding(crate::specs::Figures::shares_line))]
-fn push_shares(lines: &mut FiguresLines, subject: Subject, number: u32, figures: &Figures)
-    requires { length lines.old ≤ 100 }
-    ensures text { lines.new ≡ lines.old ++ shares_line subject number figures.now }
-    ensures len { length lines.new ≤ length lines.old + 869 }
-{
-    push_subject(lines, subject, number, figures);
-    lines.push_field(" plays ", figures.plays);
-    push_counts(lines, figures);
-    push_dues(lines, figures);
-    lines.push_text("\n");
-}
-
-/// Appends the draws, the ticks, and their share of all ticks.
-#[tactic(auto, unfolding(crate::specs::Figures::counts_text))]
-fn push_counts(lines: &mut FiguresLines, figures: &Figures)
-    requires { length lines.old ≤ 200 }
-    ensures text { lines.new ≡ lines.old ++ counts_text figures.now }
-    ensures len { length lines.new ≤ length lines.old + 483 }
-{
-    push_spread(lines, " quanta", Unit::One, figures.quanta);
-    push_spread(lines, " ticks", Unit::One, figures.ticks);
-    push_spread(lines, " share", Unit::PercentThousandth, figures.share);
-}
-
-/// Appends the share due to the thread or the currency, and its share of the live value.
-#[tactic(auto, unfolding(crate::specs::Figures::dues_text))]
-fn push_dues(lines: &mut FiguresLines, figures: &Figures)
-    requires { length lines.old ≤ 700 }
-    ensures text { lines.new ≡ lines.old ++ dues_text figures.now }
-    ensures len { length lines.new ≤ length lines.old + 322 }
-{
-    push_spread(lines, " due", Unit::PercentThousandth, figures.due);
-    push_spread(lines, " value", Unit::PercentThousandth, figures.value);
-}
-
-/// Appends the line for waits of one kind, if there were any.
-#[tactic(auto, unfolding(crate::specs::Figures::waits_line))]
-fn push_waits(
-    lines: &mut FiguresLines,
+/// Writes the lines after the first.
+fn write_further<W: Write>(
+    writer: &mut Watched<W>,
     subject: Subject,
     number: u32,
     figures: &Figures,
-    what: &str,
-    waits: SpanFigures,
-)
-    requires { (length lines.old ≤ 2000) × (length what.now ≤ 6) }
-    ensures text { lines.new ≡ lines.old ++ waits_line subject number figures.now what.now waits }
-    ensures len { length lines.new ≤ length lines.old + 526 }
-{
-    if waits.longest.plays == 0 {
-        return;
-    }
-    push_subject(lines, subject, number, figures);
-    lines.push_text(what);
-    push_spread(lines, " waits", Unit::One, waits.count);
-    push_spread(lines, " average", Unit::Thousandth, waits.mean);
-    push_spread(lines, " longest", Unit::One, waits.longest);
-    lines.push_text("\n");
-}
-
-/// Appends the line for refused traps, if there were any.
-#[tactic(auto, unfolding(crate::specs::Figures::refused_line))]
-fn push_refused(lines: &mut FiguresLines, subject: Subject, number: u32, figures: &Figures)
-    requires { length lines.old ≤ 2500 }
-    ensures text { lines.new ≡ lines.old ++ refused_line subject number figures.now }
-    ensures len { length lines.new ≤ length lines.old + 198 }
-{
-    if figures.refused.most == 0 {
-        return;
-    }
-    push_subject(lines, subject, number, figures);
-    push_spread(lines, " refused", Unit::One, figures.refused);
-    lines.push_text("\n");
-}
-
-/// Appends the line for lives, if the thread ended in a play.
-#[tactic(auto, unfolding(crate::specs::Figures::life_line))]
-fn push_life(lines: &mut FiguresLines, subject: Subject, number: u32, figures: &Figures)
-    requires { length lines.old ≤ 2650 }
-    ensures text { lines.new ≡ lines.old ++ life_line subject number figures.now }
-    ensures len { length lines.new ≤ length lines.old + 407 }
-{
-    if figures.ended.plays == 0 {
-        return;
-    }
-    push_subject(lines, subject, number, figures);
-    push_spread(lines, " made", Unit::One, figures.made);
-    push_spread(lines, " ended", Unit::One, figures.ended);
-    lines.push_field(" in ", figures.ended.plays);
-    lines.push_field(" of ", figures.plays);
-    lines.push_text("\n");
-}
-
-/// Appends the subject of a line, and its name.
-fn push_subject(lines: &mut FiguresLines, subject: Subject, number: u32, figures: &Figures)
-    requires { length lines.old ≤ 2700 }
-    ensures text { lines.new ≡ lines.old ++ subject_text subject number figures.now }
-    ensures len { length lines.new ≤ length lines.old + 36 }
-{
-    match subject {
-        Subject::Thread => push_named(lines, "thread ", number, &figures.name),
-        Subject::Currency => push_named(lines, "currency ", number, &figures.name),
-    }
-}
-
-/// Appends a word, and the mean, the least and the most of a figure over the plays that have it, if any has.
-#[tactic(auto, unfolding(crate::specs::Figures::spread_text))]
-fn push_spread(lines: &mut FiguresLines, what: &str, unit: Unit, spread: Spread)
-    requires room { (length lines.old ≤ 2900) × (length what.now ≤ 8) }
-    ensures text { lines.new ≡ lines.old ++ spread_text what.now unit spread }
-    ensures len { length lines.new ≤ length lines.old + 161 }
-{
-    if spread.plays == 0 {
-        return;
-    }
-    lines.push_text(what);
-    push_figure(lines, " mean ", unit, spread.sum, spread.plays);
-    push_figure(lines, " least ", unit, spread.least, 1);
-    push_figure(lines, " most ", unit, spread.most, 1);
-}
-
-/// Appends a word, and a figure divided by `parts`.
-fn push_figure(lines: &mut FiguresLines, what: &str, unit: Unit, figure: u128, parts: u64)
-    requires room { (length lines.old ≤ 3020) × (length what.now ≤ 7) }
-    requires some { 0 < parts }
-    ensures text { lines.new ≡ lines.old ++ (what.now ++ figure_text unit figure parts) }
-    ensures len { length lines.new ≤ length lines.old + 51 }
-{
-    match unit {
-        Unit::One => lines.push_quotient(what, figure, u128::from(parts)),
-        Unit::Thousandth => lines.push_quotient(what, figure, u128::from(parts) * 1000),
-        Unit::PercentThousandth => {
-            lines.push_quotient(what, figure, u128::from(parts) * 1000);
-            lines.push_text("%");
-        }
-    }
-}
-
-/// Writes a processor's line in a report over several plays. Fails with `Write` if the writer fails.
-pub fn write_processor_figures<W: Write>(
-    writer: &mut Watched<W>,
-    number: u32,
-    figures: &ProcessorFigures,
 ) -> Result<(), IoFault>
     requires { writer.old.failed ≡ false }
-    ensures { Writes W.contents writer.old writer.new result (processor_figures_line number figures.now) }
+    ensures { Writes W.contents writer.old writer.new result
+        (flat_map (figures_of.further_line subject number figures.now)
+        (range_with_len 1 (columns.further_lines subject))) }
 {
-    processor_line(number, figures).write_to(writer)
+    for place in 0..subject.further_lines() {
+        further_line(subject, number, figures, place + 1).write_to(writer)?;
+    }
+    Ok(())
 }
 
-/// A processor's line in a report over several plays.
-fn processor_line(number: u32, figures: &ProcessorFigures) -> FiguresLines
-    ensures { result ≡ processor_figures_line number figures.now }
+/// The first line: the number of plays, and the figures of the first columns.
+#[tactic(auto, unfolding(crate::specs::Figures::first_line), using(crate::proofs::ColumnFacts::short_columns))]
+fn first_line(subject: Subject, number: u32, figures: &Figures) -> ReportLine
+    ensures { result ≡ figures_of.first_line subject number figures.now }
 {
-    let mut line = FiguresLines::new();
-    line.push_field("processor ", number);
+    let mut line = ReportLine::new();
+    push_heading(&mut line, subject, number, &figures.name);
     line.push_field(" plays ", figures.plays);
-    push_processor_counts(&mut line, figures);
+    push_spreads(
+        &mut line,
+        Some(0),
+        figures.plays,
+        subject.columns(),
+        &figures.spreads,
+    );
     line.push_text("\n");
     line
 }
 
-/// Appends the draws, the idle draws, the ticks used, and the idle ticks.
-#[tactic(auto, unfolding(crate::specs::Figures::processor_counts))]
-fn push_processor_counts(line: &mut FiguresLines, figures: &ProcessorFigures)
-    requires { length line.old ≤ 200 }
-    ensures text { line.new ≡ line.old ++ processor_counts figures.now }
-    ensures len { length line.new ≤ length line.old + 644 }
+/// The line with this number after the first; empty unless a play tells each of its figures.
+#[tactic(auto, unfolding(crate::specs::Figures::further_line), using(crate::proofs::ColumnFacts::short_columns))]
+fn further_line(subject: Subject, number: u32, figures: &Figures, place: u32) -> ReportLine
+    ensures { result ≡ figures_of.further_line subject number figures.now place }
 {
-    push_spread(line, " quanta", Unit::One, figures.quanta);
-    push_spread(line, " idle", Unit::One, figures.idles);
-    push_spread(line, " ticks", Unit::One, figures.ticks);
-    push_spread(line, " unused", Unit::One, figures.unused);
+    let mut line = ReportLine::new();
+    let columns = subject.columns();
+    if tells_all(place, columns, &figures.spreads) {
+        push_heading(&mut line, subject, number, &figures.name);
+        push_spreads(
+            &mut line,
+            Some(place),
+            figures.plays,
+            columns,
+            &figures.spreads,
+        );
+        line.push_text("\n");
+    }
+    line
 }
 
-/// Writes the last lines of a report over several plays. Fails with `Write` if the writer fails.
-pub fn write_whole_figures<W: Write>(
-    writer: &mut Watched<W>,
-    figures: &WholeFigures,
-) -> Result<(), IoFault>
-    requires { writer.old.failed ≡ false }
-    ensures { Writes W.contents writer.old writer.new result (whole_figures_lines figures.now) }
+/// Whether a play's report tells each figure of this line.
+fn tells_all(line: u32, columns: &[Column], spreads: &[Spread]) -> bool
+    ensures { result ≡ figures_of.tells_all line (map row_of columns.now) spreads.now }
 {
-    whole_lines(figures).write_to(writer)
+    let mut others = columns;
+    let mut rest = spreads;
+    while let [column, later @ ..] = others {
+        let [spread, after @ ..] = rest else {
+            return true;
+        };
+        if column.3 == line && !spread.told {
+            return false;
+        }
+        others = later;
+        rest = after;
+    }
+    true
 }
 
-/// The last lines of a report over several plays.
-fn whole_lines(figures: &WholeFigures) -> FiguresLines
-    ensures { result ≡ whole_figures_lines figures.now }
+/// Appends the figures of the line with this number, or of a row.
+fn push_spreads<const N: usize>(
+    text: &mut Line<N>,
+    line: Option<u32>,
+    plays: u64,
+    columns: &[Column],
+    spreads: &[Spread],
+)
+    requires short { AreShort (map row_of columns.now) }
+    requires room { length text.old + 3 * cell_room * length columns.now ≤ N }
+    ensures text { text.new ≡ text.old ++ spreads_text line plays (map row_of columns.now) spreads.now }
+    ensures len { length text.new ≤ length text.old + 3 * cell_room * length columns.now }
 {
-    let mut lines = FiguresLines::new();
-    lines.push_field("total plays ", figures.plays);
-    push_whole_counts(&mut lines, figures);
-    lines.push_text("\n");
-    push_lives(&mut lines, figures.lives);
-    lines
+    let mut others = columns;
+    let mut rest = spreads;
+    while let [column, later @ ..] = others {
+        let [spread, after @ ..] = rest else {
+            return;
+        };
+        push_spread_in(text, line, plays, column, *spread);
+        others = later;
+        rest = after;
+    }
 }
 
-/// Appends the turns, the draws, the ticks, and the commands refused and never made.
-#[tactic(auto, unfolding(crate::specs::Figures::whole_counts))]
-fn push_whole_counts(lines: &mut FiguresLines, figures: &WholeFigures)
-    requires { length lines.old ≤ 200 }
-    ensures text { lines.new ≡ lines.old ++ whole_counts figures.now }
-    ensures len { length lines.new ≤ length lines.old + 805 }
+/// Appends a column's figures to a row; or to the line with this number, if it has the column.
+fn push_spread_in<const N: usize>(
+    text: &mut Line<N>,
+    line: Option<u32>,
+    plays: u64,
+    column: &Column,
+    spread: Spread,
+)
+    requires short { IsShort (row_of column.now) }
+    requires room { length text.old + 3 * cell_room ≤ N }
+    ensures text { text.new ≡ text.old ++ spread_in line plays (row_of column.now) spread }
+    ensures len { length text.new ≤ length text.old + 3 * cell_room }
 {
-    push_spread(lines, " turns", Unit::One, figures.turns);
-    push_spread(lines, " quanta", Unit::One, figures.quanta);
-    push_spread(lines, " ticks", Unit::One, figures.ticks);
-    push_spread(lines, " refused", Unit::One, figures.refused);
-    push_spread(lines, " left", Unit::One, figures.left);
+    match line {
+        None => push_fields(text, spread),
+        Some(number) => {
+            if column.3 == number {
+                push_spread(text, plays, column, spread);
+            }
+        }
+    }
 }
 
-/// Appends the line of the threads that have ended, unless none has.
-#[tactic(auto, unfolding(crate::specs::Figures::lives_line))]
-fn push_lives(lines: &mut FiguresLines, lives: SpanFigures)
-    requires { length lines.old ≤ 1500 }
-    ensures text { lines.new ≡ lines.old ++ lives_line lives }
-    ensures len { length lines.new ≤ length lines.old + 500 }
+/// Appends a column's word, and the mean, the least and the most of its figures over the plays that have one, if any
+/// has.
+#[tactic(auto, unfolding(crate::specs::Figures::spread_text))]
+fn push_spread<const N: usize>(line: &mut Line<N>, plays: u64, column: &Column, spread: Spread)
+    requires short { IsShort (row_of column.now) }
+    requires room { length line.old + 3 * cell_room ≤ N }
+    ensures text { line.new ≡ line.old ++ spread_text plays (row_of column.now) spread }
+    ensures len { length line.new ≤ length line.old + 3 * cell_room }
 {
-    if lives.longest.plays == 0 {
+    if spread.plays == 0 {
         return;
     }
-    lines.push_text("total");
-    push_spread(lines, " ended", Unit::One, lives.count);
-    push_spread(lines, " average", Unit::Thousandth, lives.mean);
-    push_spread(lines, " longest", Unit::One, lives.longest);
-    lines.push_text("\n");
+    let (word, unit) = (column.0, column.2);
+    line.push_text(" ");
+    line.push_text(plays_word(unit, word));
+    push_signed(line, " mean ", unit, spread.sum / u128::from(spread.plays));
+    push_signed(line, " least ", unit, spread.least);
+    push_signed(line, " most ", unit, spread.most);
+    push_plays_with(line, unit, spread.plays, plays);
+}
+
+/// The word of a column with this unit over several plays.
+fn plays_word(unit: Unit, word: &str) -> &str
+    requires { length word.now ≤ 12 }
+    ensures word { result.now ≡ figures_of.plays_word unit word.now }
+    ensures len { length result.now ≤ 12 }
+{
+    match unit {
+        Unit::Mean => "average",
+        Unit::One | Unit::Percent | Unit::End => word,
+    }
+}
+
+/// Appends, after the figures of an end, the number of plays in which it came.
+fn push_plays_with<const N: usize>(line: &mut Line<N>, unit: Unit, count: u64, plays: u64)
+    requires { length line.old + 48 ≤ N }
+    ensures text { line.new ≡ line.old ++ plays_with unit count plays }
+    ensures len { length line.new ≤ length line.old + 48 }
+{
+    match unit {
+        Unit::End => {
+            line.push_field(" in ", count);
+            line.push_field(" of ", plays);
+        }
+        Unit::One | Unit::Mean | Unit::Percent => (),
+    }
+}
+
+/// Appends the mean, the least and the most of a figure to a row, or three empty fields if no play has it.
+#[tactic(auto, unfolding(crate::specs::Figures::spread_fields))]
+fn push_fields<const N: usize>(row: &mut Line<N>, spread: Spread)
+    requires { length row.old + 3 * cell_room ≤ N }
+    ensures text { row.new ≡ row.old ++ spread_fields spread }
+    ensures len { length row.new ≤ length row.old + 3 * cell_room }
+{
+    if spread.plays == 0 {
+        row.push_text(",,,");
+        return;
+    }
+    row.push_figure(",", spread.sum / u128::from(spread.plays));
+    row.push_figure(",", spread.least);
+    row.push_figure(",", spread.most);
+}
+
+/// Writes the row of the thread or the currency with this number in this table of a report over several plays. Fails
+/// with `Write` if the writer fails.
+pub fn write_figures_record<W: Write>(
+    writer: &mut Watched<W>,
+    table: Table,
+    number: u32,
+    figures: &Figures,
+) -> Result<(), IoFault>
+    requires { writer.old.failed ≡ false }
+    ensures { Writes W.contents writer.old writer.new result (figures_record table number figures.now) }
+{
+    figures_row(table, number, figures).write_to(writer)
+}
+
+/// The row of the thread or the currency with this number in this table.
+#[tactic(auto, unfolding(crate::specs::Figures::figures_record), using(crate::proofs::ColumnFacts::short_table))]
+fn figures_row(table: Table, number: u32, figures: &Figures) -> ReportLine
+    ensures { result ≡ figures_record table number figures.now }
+{
+    let mut row = ReportLine::new();
+    push_numbered(&mut row, number, &figures.name);
+    row.push_field(",", figures.plays);
+    push_spreads(
+        &mut row,
+        None,
+        figures.plays,
+        table.columns(true),
+        &figures.spreads,
+    );
+    row.push_text("\n");
+    row
 }
 
 /// Writes the first line of a report over plays with these seeds. Fails with `Write` if the writer fails.
@@ -411,10 +288,10 @@ pub fn write_seeds<W: Write>(writer: &mut Watched<W>, first: u32, last: u32) -> 
 }
 
 /// The first line of a report over plays with these seeds.
-fn seeds_text(first: u32, last: u32) -> FiguresLines
+fn seeds_text(first: u32, last: u32) -> RowLine
     ensures { result ≡ seeds_line first last }
 {
-    let mut line = FiguresLines::new();
+    let mut line = RowLine::new();
     line.push_field("seeds ", first);
     line.push_field(" to ", last);
     line.push_text("\n");

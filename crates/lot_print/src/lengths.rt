@@ -1,7 +1,7 @@
 //! The largest numbers of bytes in lines, as sums over their parts. Clauses have these numbers as literals; the proofs
 //! of the functions that append the parts check them.
 
-use lot_simulation::SCHEDULE_WORD;
+use lot_simulation::{COLUMNS, SCHEDULE_WORD};
 
 /// The largest number of actors in a `schedule` line.
 pub(crate) const ACTORS: usize = 64;
@@ -134,107 +134,38 @@ const LOAN: usize = FRONT
 /// The longest line of a listing, of a lender or of the report.
 pub(crate) const ROW: usize = 256;
 
-/// The number and the length of a thread's waits.
-const WAITS: usize = b" mutex".len()
-    + b" waits ".len()
-    + LONG_NUMBER
-    + b" mean ".len()
-    + QUOTIENT
-    + b" longest ".len()
-    + LONG_NUMBER;
+/// The most bytes of a cell in a line or a row, of a third of a figure over several plays, and of a third of the names
+/// of a column.
+const CELL: usize = 72;
 
-/// A share in percent.
-const PERCENT: usize = b" share ".len() + QUOTIENT + 1;
+/// A column's word, and its name.
+const WORD: usize = b"mutex waits".len();
 
-/// The number of a thread's refused traps.
-const REFUSED_TRAPS: usize = b" refused ".len() + NUMBER;
+const COLUMN_NAME: usize = b"mutex_longest".len();
 
-/// The times at which a thread was made and ended.
-const LIFE: usize = b" made ".len() + NUMBER + b" ended ".len() + NUMBER;
+/// A word after a space, and a figure with its sign.
+const FIGURE: usize = 1 + WORD + 1 + QUOTIENT + 1;
 
-/// A thread's line in a timed report.
-const TIMED_THREAD: usize = NAMED
-    + COUNTS
-    + PERCENT
-    + PERCENT
-    + PERCENT
-    + WAITS
-    + WAITS
-    + WAITS
-    + REFUSED_TRAPS
-    + LIFE
-    + 1;
-
-/// A currency's line in a timed report.
-const TIMED_CURRENCY: usize = NAMED + b" ticks ".len() + LONG_NUMBER + PERCENT + PERCENT + 1;
-
-/// The longest line of a timed report.
-pub(crate) const TIMED_ROW: usize = 640;
-
-/// A figure's word, and its mean, its least and its most over several plays.
-const SPREAD: usize = b" longest".len()
+/// A word after a space, and its mean, its least and its most over several plays.
+const SPREAD: usize = 1
+    + WORD
     + b" mean ".len()
     + b" least ".len()
     + b" most ".len()
-    + 3 * (QUOTIENT + 1);
-
-/// The number of plays, and a thread's or a currency's first figures.
-const SHARES_LINE: usize = NAMED + b" plays ".len() + LONG_NUMBER + 5 * SPREAD + 1;
-
-/// The line for waits of one kind over several plays.
-const WAITS_LINE: usize = NAMED + b" mutex".len() + 3 * SPREAD + 1;
-
-/// The line for refused traps over several plays.
-const REFUSED_LINE: usize = NAMED + SPREAD + 1;
-
-/// The line for lives over several plays.
-const LIFE_LINE: usize = NAMED
-    + 2 * SPREAD
+    + 3 * (QUOTIENT + 1)
     + b" in ".len()
     + LONG_NUMBER
     + b" of ".len()
-    + LONG_NUMBER
-    + 1;
+    + LONG_NUMBER;
 
-/// A processor's line over several plays.
-const PROCESSOR_LINE: usize = b"processor ".len()
-    + NUMBER
-    + b" plays ".len()
-    + LONG_NUMBER
-    + 4 * SPREAD
-    + 1;
+/// The names of a column over several plays.
+const NAMES: usize = 3 * (1 + COLUMN_NAME) + b"_mean".len() + b"_least".len() + b"_most".len();
 
-/// The last lines over several plays.
-const WHOLE_LINES: usize = b"total plays ".len()
-    + LONG_NUMBER
-    + 5 * SPREAD
-    + 1
-    + b"total".len()
-    + 3 * SPREAD
-    + 1;
+/// The start of a line or a row over several plays; others are shorter.
+const START: usize = NAMED + b" plays ".len() + LONG_NUMBER;
 
-/// All lines of a thread or a currency in a report over several plays; others are shorter.
-pub(crate) const FIGURES_LINES: usize = 3072;
-
-/// A number and its name, the first fields of a row in a table.
-const NAMED_FIELDS: usize = NUMBER + 1 + NAME;
-
-/// A thread's row in the table of a timed report.
-const TIMED_FIELDS: usize = NAMED_FIELDS
-    + 2 * (1 + LONG_NUMBER)
-    + 3 * (1 + QUOTIENT)
-    + 3 * (1 + NUMBER + 1 + QUOTIENT + 1 + NUMBER)
-    + 3 * (1 + NUMBER)
-    + 1;
-
-/// A currency's row in the table of a timed program's currencies.
-const CURRENCY_FIELDS: usize = NAMED_FIELDS + 1 + LONG_NUMBER + 2 * (1 + QUOTIENT) + 1;
-
-/// A thread's row in the table of a report over several plays of a timed program.
-const FIGURES_FIELDS: usize = NAMED_FIELDS + 1 + LONG_NUMBER + 17 * 3 * (1 + QUOTIENT) + 1;
-
-/// The longest row of a table.
-pub(crate) const TABLE_ROW: usize = 2304;
+/// The longest line or row of a report.
+pub(crate) const REPORT_LINE: usize = START + 3 * CELL * COLUMNS + 1;
 
 /// A `schedule` line.
 pub(crate) const SCHEDULE_LINE: usize = SCHEDULE_WORD.len() + ACTORS * (1 + ACTOR) + 1;
@@ -245,12 +176,4 @@ const _: () = prove!(TICKET_ROW <= ROW && CURRENCY_ROW <= ROW && THREAD_ROW <= R
 
 const _: () = prove!(LOT <= LOT_ROW);
 
-const _: () = prove!(TIMED_THREAD <= TIMED_ROW && TIMED_CURRENCY <= TIMED_ROW);
-
-const _: () = prove!(PROCESSOR_LINE <= FIGURES_LINES && WHOLE_LINES <= FIGURES_LINES);
-
-const _: () = prove!(SHARES_LINE + 3 * WAITS_LINE + REFUSED_LINE + LIFE_LINE <= FIGURES_LINES);
-
-const _: () = prove!(TIMED_FIELDS <= TABLE_ROW && FIGURES_FIELDS <= TABLE_ROW);
-
-const _: () = prove!(CURRENCY_FIELDS <= TABLE_ROW);
+const _: () = prove!(FIGURE <= CELL && SPREAD <= 3 * CELL && NAMES <= 3 * CELL);

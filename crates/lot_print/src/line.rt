@@ -1,6 +1,7 @@
 //! A line that functions append to, and then write by one call.
 ghost use Rattle.std.specs.Prelude.{◌≡◌, ◌<◌, ◌≤◌, ◌+◌, ◌/◌, ◌%◌, ◌^◌, ◌++◌, ◌∷◌, [], codes, false, length};
 ghost use Rattle.std.specs.Fmt.{decimal};
+ghost use Rattle.lot_simulation.specs.Columns.{thousandths_text};
 ghost use Rattle.lot_simulation.specs.Texts.{behind_point, drawn_value, front, quotient_text, value_text};
 ghost use Rattle.lot_io.specs.Writing.{Writes};
 
@@ -179,6 +180,18 @@ impl<const N: usize> Line<N> {
         self.push_text(text);
         self.push_wide("", number / divisor);
         self.push_thousandths((number % divisor * 1000 / divisor) as u32);
+    }
+
+    /// Appends the text and then a figure in thousandths, with at most three digits after the point.
+    #[inline(never)]
+    pub(crate) fn push_figure(&mut self, text: &str, figure: u128)
+        requires { length self.old + length text.now + 43 ≤ N }
+        ensures text { self.new ≡ self.old ++ (text.now ++ thousandths_text figure) }
+        ensures len { length self.new ≤ length self.old + length text.now + 43 }
+    {
+        self.push_text(text);
+        self.push_wide("", figure / 1000);
+        self.push_thousandths((figure % 1000) as u32);
     }
 
     /// Appends thousandths: a point and up to three digits, without trailing zeros; nothing for 0.

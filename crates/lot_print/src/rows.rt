@@ -188,22 +188,13 @@ pub(crate) fn push_named<const N: usize>(line: &mut Line<N>, word: &str, number:
 }
 
 /// Appends the end of a line: the draws won, and the ticks used.
-pub(crate) fn push_used(line: &mut RowLine, quanta: u64, ticks: u64)
+fn push_used(line: &mut RowLine, quanta: u64, ticks: u64)
     requires { length line.old ≤ 200 }
     ensures { line.new ≡ line.old ++ used_text quanta ticks }
 {
-    push_counts(line, quanta, ticks);
-    line.push_text("\n");
-}
-
-/// Appends the draws won, and the ticks used.
-pub(crate) fn push_counts<const N: usize>(line: &mut Line<N>, quanta: u64, ticks: u64)
-    requires { length line.old + 55 ≤ N }
-    ensures text { line.new ≡ line.old ++ (codes " quanta " ++ (decimal quanta ++ (codes " ticks " ++ decimal ticks))) }
-    ensures len { length line.new ≤ length line.old + 55 }
-{
     line.push_field(" quanta ", quanta);
     line.push_field(" ticks ", ticks);
+    line.push_text("\n");
 }
 
 /// Appends a currency's value: base, which is currency 0, is worth its active amount.

@@ -65,7 +65,7 @@ HasWorked program before after =
 abbrev pub AllMade : Program → List Seat → List Seat → Type 0
 AllMade program before after = EachSeat before after (λ k s t. HasMadeAll program s t)
 
--- The fault stopped some seat, which no longer stores it. Each seat before it has made all its turns, and each seat
+-- The fault stopped some seat, which does not store it. Each seat before it has made all its turns, and each seat
 -- after it has worked.
 pub record FirstStops (program : Program) (fault : TurnFault) (before after : List Seat) : Type 0 where
   pub place : ℕ

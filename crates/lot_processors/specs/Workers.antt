@@ -91,7 +91,7 @@ HasWorked setting program before after =
 abbrev pub AllMade : Setting → Program → List Holder → List Holder → Type 0
 AllMade setting program before after = EachSeat before after (λ k s t. HasMadeAll setting program s t)
 
--- The fault stopped some seat, which no longer stores it. Each seat before it has made all its turns, and each seat
+-- The fault stopped some seat, which does not store it. Each seat before it has made all its turns, and each seat
 -- after it has worked.
 pub record FirstStops (setting : Setting) (program : Program) (fault : TurnFault) (before after : List Holder) : Type 0 where
   pub place : ℕ

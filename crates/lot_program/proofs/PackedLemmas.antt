@@ -5,11 +5,12 @@ use Rattle.std.proofs.lemmas.Bool.{leb-true}
 use Rattle.std.proofs.lemmas.List.{append-nil, drop-append-le, drop_at, map-append, take-append-drop, take-append-le, take_all}
 use Rattle.std.proofs.lemmas.List.Elements.{All-tail}
 use Rattle.lot_machine.specs.Arguments.{Value}
-use Rattle.lot_machine.specs.Verbs.{EachTaken, command_from, command_given, form, parts, values_given, ◌>>=◌}
+use Rattle.lot_machine.specs.Commands.{command_from, form, parts}
+use Rattle.lot_machine.specs.Verbs.{EachTaken, command_given, values_given, ◌>>=◌}
 use Rattle.lot_machine.specs.declared.command.Command.{Command}
-use Rattle.lot_machine.specs.declared.verb.Slot.{Slot}
-use Rattle.lot_machine.specs.declared.verb.Slot.TheVariants as slot
-use Rattle.lot_machine.specs.declared.verb.Verb.{Verb}
+use Rattle.lot_machine.specs.declared.arguments.Slot.{Slot}
+use Rattle.lot_machine.specs.declared.arguments.Slot.TheVariants as slot
+use Rattle.lot_machine.specs.declared.command.Verb.{Verb}
 use Rattle.lot_program.specs.declared.packed.PackedCommand.{PackedCommand}
 use Rattle.lot_program.specs.Packed.{Extends, Filling, IsCommandIn, IsReadAgain, Read, bytes_at, bytes_of, command_in, command_read, filled_before, long_at, read_as, command_at, name_at, value_at, with_value, word_at}
 

@@ -10,8 +10,8 @@ use Rattle.lot_machine.specs.declared.command.Kind.TheVariants.{Tickets}
 use Rattle.lot_machine.specs.declared.reference.CurrencyRef.TheVariants as currency
 use Rattle.lot_machine.specs.declared.reference.TargetRef.TheVariants as target
 use Rattle.lot_machine.specs.declared.reference.ThreadRef.TheVariants as thread
-use Rattle.lot_machine.specs.declared.verb.Slot.{Slot}
-use Rattle.lot_machine.specs.declared.verb.Slot.TheVariants as slot
+use Rattle.lot_machine.specs.declared.arguments.Slot.{Slot}
+use Rattle.lot_machine.specs.declared.arguments.Slot.TheVariants as slot
 use Rattle.lot_program.specs.declared.packed.PackedCommand.{PackedCommand}
 
 -- the second pool begins with the bytes of the first

@@ -8,13 +8,13 @@ use Rattle.lot_machine.specs.declared.command.Command.{Command}
 use Rattle.lot_machine.specs.declared.reference.CurrencyRef.TheVariants as currency_ref
 use Rattle.lot_machine.specs.declared.reference.ThreadRef.TheVariants as thread_ref
 use Rattle.lot_machine.specs.declared.reference.TargetRef.TheVariants as target_ref
-use Rattle.lot_machine.specs.declared.verb.Slot.{Slot}
-use Rattle.lot_machine.specs.declared.verb.Slot.TheVariants as slot
+use Rattle.lot_machine.specs.declared.arguments.Slot.{Slot}
+use Rattle.lot_machine.specs.declared.arguments.Slot.TheVariants as slot
 use Rattle.lot_machine.specs.Arguments.{Value}
 use Rattle.lot_machine.specs.Arguments as value
-use Rattle.lot_machine.specs.declared.verb.Verb.{Verb}
-use Rattle.lot_machine.specs.declared.verb.Verb.TheVariants as verb
-use Rattle.lot_machine.specs.Verbs.{command_from, form}
+use Rattle.lot_machine.specs.declared.command.Verb.{Verb}
+use Rattle.lot_machine.specs.declared.command.Verb.TheVariants as verb
+use Rattle.lot_machine.specs.Commands.{command_from, form}
 use Rattle.lot_simulation.specs.declared.forms.Argument.{Argument}
 use Rattle.lot_simulation.specs.declared.forms.Argument.TheVariants.{Number, KnownName}
 use Rattle.lot_simulation.specs.declared.input.HeaderWord.{HeaderWord}

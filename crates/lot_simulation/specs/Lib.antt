@@ -18,6 +18,8 @@ pub mod Reading
 pub mod Grammar
 -- The text of replies, refusals and listings.
 pub mod Texts
+-- The columns of reports, and the texts of their cells.
+pub mod Columns
 -- The report, and the lines that reproduce a history.
 pub mod Report
 -- Timed inputs: turns in time order.

@@ -7,6 +7,8 @@ use Rattle.lot_machine.specs.declared.reply.Reply.{Reply}
 use Rattle.lot_machine.specs.declared.reply.Reply.TheVariants as reply
 use Rattle.lot_machine.specs.Numbered.{numbers}
 use Rattle.lot_machine.specs.Rows.{thread_row}
+use Rattle.lot_simulation.specs.Columns.{number, report_line}
+use Rattle.lot_simulation.specs.declared.columns.Subject.TheVariants.{Processor, Thread, Total}
 use Rattle.lot_simulation.specs.Grammar.{ActorRun}
 use Rattle.lot_simulation.specs.Texts.{newline, lines_for}
 use Rattle.lot_simulation.specs.World.{Program, World, TurnAnswer, opening_world, system_answers, system_run}
@@ -62,21 +64,17 @@ turns_of actor turns = filter (λ turn. turn.actor == actor) turns
 
 -- a thread's line: its name, the draws it has won and the ticks it has used
 abbrev pub thread_total : ℕ → ThreadRow → List ℕ
-thread_total n row =
-    codes "thread " ++ (decimal n ++ (codes " " ++ (row.name ++ (codes " quanta " ++ (decimal row.quanta ++ (codes " ticks " ++ (decimal row.ticks ++ newline)))))))
+thread_total n row = report_line Thread n row.name (number row.quanta ∷ number row.ticks ∷ [])
 
 -- a processor's line: its won draws, its idle draws, and the ticks used there
 abbrev pub processor_total : List ActorTurn → ℕ → List ℕ
 processor_total turns p =
-    codes "processor " ++ (decimal p ++ (codes " quanta " ++ (decimal (total_of quanta_in (turns_of p turns))
-    ++ (codes " idle " ++ (decimal (total_of idles_in (turns_of p turns))
-    ++ (codes " ticks " ++ (decimal (total_of ticks_in (turns_of p turns)) ++ newline)))))))
+    report_line Processor p []
+    (number (total_of quanta_in (turns_of p turns)) ∷ number (total_of idles_in (turns_of p turns)) ∷ number (total_of ticks_in (turns_of p turns)) ∷ [])
 
 -- the last line: the number of turns, and the counts over all of them
 abbrev pub whole_total : ℕ → List ActorTurn → List ℕ
-whole_total made turns =
-    codes "total turns " ++ (decimal made ++ (codes " quanta " ++ (decimal (total_of quanta_in turns)
-    ++ (codes " ticks " ++ (decimal (total_of ticks_in turns) ++ newline)))))
+whole_total made turns = report_line Total 1 [] (number made ∷ number (total_of quanta_in turns) ∷ number (total_of ticks_in turns) ∷ [])
 
 -- the report of the world after these turns
 abbrev pub report_of : World → List ActorTurn → List ℕ

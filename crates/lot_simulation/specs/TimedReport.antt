@@ -1,5 +1,5 @@
 -- The report of a timed input.
-use Rattle.std.specs.Prelude.{ℕ, ◌+◌, ◌-◌, ◌*◌, ◌/◌, ◌^◌, max, ◌==◌, Bool, false, is_some, Option, Some, None, List, [], ◌∷◌, ◌++◌, length, map, fold, codes, if◌then◌else◌}
+use Rattle.std.specs.Prelude.{ℕ, ◌+◌, ◌-◌, ◌*◌, ◌/◌, ◌^◌, max, ◌==◌, Bool, false, is_some, Option, Some, None, List, [], ◌∷◌, ◌++◌, length, drop, map, fold, codes, if◌then◌else◌}
 use Rattle.std.specs.List.{flat_map, range_with_len}
 use Rattle.std.specs.Option.{option_map, option_map_or}
 use Rattle.std.specs.Fmt.{decimal}
@@ -16,7 +16,14 @@ use Rattle.lot_machine.specs.Rows.{currency_name, thread_row}
 use Rattle.lot_machine.specs.declared.record.Status.{Status}
 use Rattle.lot_machine.specs.declared.record.Status.TheVariants.{Ready, Running}
 use Rattle.lot_machine.specs.State.{State, live_of, opening, status_of, value_of}
-use Rattle.lot_simulation.specs.Texts.{newline, quotient_text}
+use Rattle.lot_simulation.specs.Columns.{all_subjects, number, quiet, share, span_cells, told_text}
+use Rattle.lot_simulation.specs.declared.columns.Layout.{Layout}
+use Rattle.lot_simulation.specs.declared.columns.Layout.TheVariants.{InLine}
+use Rattle.lot_simulation.specs.declared.columns.Subject.{Subject}
+use Rattle.lot_simulation.specs.declared.columns.Cell.{Cell}
+use Rattle.lot_simulation.specs.declared.columns.Cell.TheVariants.{Empty}
+use Rattle.lot_simulation.specs.declared.columns.Subject.TheVariants.{Currency, Processor, Thread, Total}
+use Rattle.lot_simulation.specs.Texts.{newline}
 use Rattle.lot_simulation.specs.Report.{ActorTurn, quanta_in, idles_in, ticks_in, total_of, turns_of}
 use Rattle.lot_simulation.specs.declared.timed.Clock.{Clock}
 use Rattle.lot_simulation.specs.declared.timed.EarlyEnd.{EarlyEnd}
@@ -26,7 +33,7 @@ use Rattle.lot_simulation.specs.declared.timed.SpanChange.{SpanChange}
 use Rattle.lot_simulation.specs.declared.timed.SpanChange.TheVariants.{Nobody, Anew, Begins, Ends}
 use Rattle.lot_simulation.specs.declared.timed.Spans.{Spans}
 use Rattle.lot_simulation.specs.Timed.{Moment, TimedTurn, clock_of, end_of, ended_at, following, moment_after_all, opening_moment, timed_turns}
-use Rattle.lot_simulation.specs.Below.{currency_numbers, stands_below, worth_of}
+use Rattle.lot_simulation.specs.Below.{stands_below, worth_of}
 use Rattle.lot_simulation.specs.World.{Program, TurnAnswer, TurnMade}
 use Rattle.lot_simulation.specs.World.TurnAnswer.{Answered}
 
@@ -145,19 +152,9 @@ refused_traps_in turns t = fold (λ n done. refusals_after t n done.turn.answer)
 
 -- ---- the report
 
--- a part of a whole in percent, with at most three digits after the point; 0 if the whole is 0
-abbrev pub percent_text : ℕ → ℕ → List ℕ
-percent_text part whole = (if whole == 0 then codes "0" else quotient_text (part * 100) whole) ++ codes "%"
-
--- the number of a thread's waits of this kind, their mean and the longest; nothing if it has never waited
-abbrev pub waits_text : List ℕ → Spans → List ℕ
-waits_text what waits =
-    if waits.count == 0 then []
-    else what ++ (codes " waits " ++ (decimal waits.count ++ (codes " mean " ++ (quotient_text waits.total waits.count ++ (codes " longest " ++ decimal waits.longest)))))
-
--- the number of a thread's refused traps; nothing if there is none
-abbrev pub refused_traps_text : ℕ → List ℕ
-refused_traps_text n = if n == 0 then [] else codes " refused " ++ decimal n
+-- each timed turn's actor with its answer
+abbrev pub actor_turns : List TimedTurn → List ActorTurn
+actor_turns turns = map (λ done. record { actor = done.actor; answer = done.turn.answer }) turns
 
 -- the thread's part of the live value: its own value if it is live, and 0 otherwise
 abbrev pub live_part : State → ℕ → ℕ → ℕ
@@ -212,29 +209,38 @@ time_from counted s time all (done ∷ others) =
 abbrev pub live_time : State → List TimedTurn → ℕ
 live_time s turns = time_from live_ticks s 0 0 turns
 
--- The times at which a thread was made and ended. A thread made at 0 that hasn't ended has neither.
-abbrev pub life_text : Spans → List ℕ
-life_text lives = text lives.since lives.last
+-- the time at which the last thread with these lives was made; a line leaves it out if it is 0 and the thread hasn't ended
+abbrev pub made_cell : Spans → Cell
+made_cell lives = at lives.since lives.last
   where
-    text : Option ℕ → Option Span → List ℕ
-    text (Some since) last = if since == 0 then [] else codes " made " ++ decimal since
-    text None (Some life) = codes " made " ++ (decimal life.from ++ (codes " ended " ++ decimal life.to))
-    text None None = []
+    at : Option ℕ → Option Span → Cell
+    at (Some since) last = quiet since
+    at None (Some life) = number life.from
+    at None None = Empty
 
--- A thread's line: its name, the draws won, the ticks used and their share of all ticks, its due share of the time in
--- which live threads had value, its share of the live value, its waits to run, for mutexes and for replies, its refused
--- traps, and when it was made and ended.
-abbrev pub timed_thread_total : State → List TimedTurn → ℕ → ℕ → ThreadRow → List ℕ
-timed_thread_total s turns all t row =
-    codes "thread " ++ (decimal t ++ (codes " " ++ (row.name ++ (codes " quanta " ++ (decimal row.quanta
-    ++ (codes " ticks " ++ (decimal row.ticks ++ (codes " share " ++ (percent_text row.ticks all
-    ++ (codes " due " ++ (percent_text (due_in (opening s.limits) turns t) (live_time (opening s.limits) turns * tick_parts)
-    ++ (codes " value " ++ (percent_text (live_part s t row.value) (live_value s)
-    ++ (waits_text (codes " ready") (ready_in turns t)
-    ++ (waits_text (codes " mutex") (spans_in mutex_change turns t)
-    ++ (waits_text (codes " reply") (spans_in reply_change turns t)
-    ++ (refused_traps_text (refused_traps_in turns t)
-    ++ (life_text (spans_in life_change turns t) ++ newline))))))))))))))))))
+-- the time at which it ended, if it has
+abbrev pub ended_cell : Spans → Cell
+ended_cell lives = at lives.since lives.last
+  where
+    at : Option ℕ → Option Span → Cell
+    at (Some since) last = Empty
+    at None (Some life) = number life.to
+    at None None = Empty
+
+-- a thread's waits of one kind: their number, their mean, and the longest
+abbrev pub wait_cells : Spans → List Cell
+wait_cells waits = span_cells waits.count waits.total waits.longest
+
+-- The cells of a thread: the draws won, the ticks used and their share of all ticks, its due share of the time in which
+-- live threads had value, its share of the live value, its waits to run, for mutexes and for replies, its refused traps,
+-- and when it was made and ended.
+unfoldable pub thread_cells : State → List TimedTurn → ℕ → ThreadRow → List Cell
+thread_cells s turns t row =
+    number row.quanta ∷ number row.ticks ∷ share row.ticks (total_of ticks_in (actor_turns turns))
+    ∷ share (due_in (opening s.limits) turns t) (live_time (opening s.limits) turns * tick_parts)
+    ∷ share (live_part s t row.value) (live_value s)
+    ∷ (wait_cells (ready_in turns t) ++ (wait_cells (spans_in mutex_change turns t) ++ (wait_cells (spans_in reply_change turns t)
+    ++ (quiet (refused_traps_in turns t) ∷ made_cell (spans_in life_change turns t) ∷ ended_cell (spans_in life_change turns t) ∷ []))))
 
 -- ---- currencies
 
@@ -285,25 +291,16 @@ currency_due_in s turns c = due_from (λ state ticks. currency_part state c tick
 abbrev pub base_time : State → List TimedTurn → ℕ
 base_time s turns = time_from base_ticks s 0 0 turns
 
--- A currency's line: its name, the ticks of the threads below it and their share of all ticks, and its due share of the
--- time in which base tickets were active. A thread may stand below several currencies, so the shares may add up to more
--- than all.
-abbrev pub timed_currency_total : State → List TimedTurn → ℕ → ℕ → List ℕ → List ℕ
-timed_currency_total s turns all c name =
-    codes "currency " ++ (decimal c ++ (codes " " ++ (name
-    ++ (codes " ticks " ++ (decimal (currency_ticks_in (opening s.limits) turns c)
-    ++ (codes " share " ++ (percent_text (currency_ticks_in (opening s.limits) turns c) all
-    ++ (codes " due " ++ (percent_text (currency_due_in (opening s.limits) turns c) (base_time (opening s.limits) turns * tick_parts) ++ newline)))))))))
-
--- the lines of all currencies except base
-abbrev pub timed_currency_lines : State → List TimedTurn → ℕ → List ℕ
-timed_currency_lines s turns all = flat_map (λ c. option_map_or (timed_currency_total s turns all c) (currency_name s c) []) (currency_numbers s)
+-- The cells of a currency: the ticks of the threads below it and their share of all ticks, and its due share of the time
+-- in which base tickets were active. A thread may stand below several currencies, so the shares may add up to more than
+-- all.
+unfoldable pub currency_cells : State → List TimedTurn → ℕ → List Cell
+currency_cells s turns c =
+    number (currency_ticks_in (opening s.limits) turns c)
+    ∷ share (currency_ticks_in (opening s.limits) turns c) (total_of ticks_in (actor_turns turns))
+    ∷ share (currency_due_in (opening s.limits) turns c) (base_time (opening s.limits) turns * tick_parts) ∷ []
 
 -- ---- the whole report
-
--- each timed turn's actor with its answer
-abbrev pub actor_turns : List TimedTurn → List ActorTurn
-actor_turns turns = map (λ done. record { actor = done.actor; answer = done.turn.answer }) turns
 
 -- the ticks that a processor was idle, up to this time
 abbrev pub idle_until : ℕ → Clock → ℕ
@@ -313,13 +310,11 @@ idle_until end clock = if clock.waits then clock.idle + (end - clock.time) else 
 abbrev pub clock_at : ℕ → Clock → ℕ
 clock_at end clock = if clock.waits then end else clock.time
 
--- a processor's line: its won draws, its idle draws, the ticks used there, and the ticks that it was idle
-abbrev pub timed_processor_total : Moment → ℕ → List ActorTurn → ℕ → List ℕ
-timed_processor_total m end turns p =
-    codes "processor " ++ (decimal p ++ (codes " quanta " ++ (decimal (total_of quanta_in (turns_of p turns))
-    ++ (codes " idle " ++ (decimal (total_of idles_in (turns_of p turns))
-    ++ (codes " ticks " ++ (decimal (total_of ticks_in (turns_of p turns))
-    ++ (codes " unused " ++ (decimal (idle_until end (clock_of m.clocks p)) ++ newline)))))))))
+-- the cells of a processor: its won draws, its idle draws, the ticks used there, and the ticks that it was idle
+unfoldable pub processor_cells : Moment → ℕ → List ActorTurn → ℕ → List Cell
+processor_cells m end turns p =
+    number (total_of quanta_in (turns_of p turns)) ∷ number (total_of idles_in (turns_of p turns))
+    ∷ number (total_of ticks_in (turns_of p turns)) ∷ number (idle_until end (clock_of m.clocks p)) ∷ []
 
 -- 1 if a command or a wake was refused
 abbrev pub refusals_in : Reply → ℕ
@@ -338,33 +333,39 @@ with_lives lives spans = record { count = lives.count + spans.count; total = liv
 abbrev pub past_lives : State → List TimedTurn → PastLives
 past_lives s turns = fold (λ lives t. with_lives lives (spans_in life_change turns t)) no_lives (numbers s.records)
 
--- how many threads have ended, how long they lived on average, and the longest of their lives; nothing if none has
-abbrev pub ended_text : PastLives → List ℕ
-ended_text lives =
-    if lives.count == 0 then []
-    else codes " ended " ++ (decimal lives.count ++ (codes " mean " ++ (quotient_text lives.total lives.count ++ (codes " longest " ++ decimal lives.longest))))
+-- The cells of all actors: the counts over all turns, the numbers of refused commands and wakes, and of commands never
+-- made, and the lives of the threads that have ended.
+unfoldable pub total_cells : Moment → List TimedTurn → List Cell
+total_cells m turns = cells (past_lives m.world.state turns)
+  where
+    cells : PastLives → List Cell
+    cells lives =
+        number (length turns) ∷ number (total_of quanta_in (actor_turns turns)) ∷ number (total_of ticks_in (actor_turns turns))
+        ∷ number (total_of refusals_in (actor_turns turns)) ∷ number (length m.world.commands) ∷ span_cells lives.count lives.total lives.longest
 
--- the counts over all turns, the numbers of refused commands and wakes, and of commands never made, and the lives of
--- the threads that have ended
-abbrev pub timed_whole_total : Moment → List TimedTurn → List ℕ
-timed_whole_total m turns =
-    codes "total turns " ++ (decimal (length turns) ++ (codes " quanta " ++ (decimal (total_of quanta_in (actor_turns turns))
-    ++ (codes " ticks " ++ (decimal (total_of ticks_in (actor_turns turns))
-    ++ (codes " refused " ++ (decimal (total_of refusals_in (actor_turns turns))
-    ++ (codes " left " ++ (decimal (length m.world.commands)
-    ++ (ended_text (past_lives m.world.state turns) ++ newline))))))))))
+-- the line or the row of a subject, or nothing if it doesn't exist
+abbrev pub subject_text : Layout → Moment → ℕ → List TimedTurn → Subject → ℕ → List ℕ
+subject_text layout m end turns Thread t =
+    option_map_or (λ row. told_text layout Thread t row.name (thread_cells m.world.state turns t row)) (thread_row m.world.state t) []
+subject_text layout m end turns Currency c =
+    option_map_or (λ name. told_text layout Currency c name (currency_cells m.world.state turns c)) (currency_name m.world.state c) []
+subject_text layout m end turns Processor p = told_text layout Processor p [] (processor_cells m end (actor_turns turns) p)
+subject_text layout m end turns Total n = told_text layout Total n [] (total_cells m turns)
 
--- the lines of all threads
-abbrev pub timed_thread_lines : State → List TimedTurn → ℕ → List ℕ
-timed_thread_lines s turns all = flat_map (λ t. option_map_or (timed_thread_total s turns all t) (thread_row s t) []) (numbers s.records)
+-- the number of subjects of this kind, those that don't exist any more included; base is no subject
+abbrev pub count_of : State → Subject → ℕ
+count_of s Thread = length s.records
+count_of s Currency = length (drop 1 s.currencies)
+count_of s Processor = s.limits.processors
+count_of s Total = 1
+
+-- the lines or rows of all subjects of this kind
+abbrev pub subjects_text : Layout → Moment → ℕ → List TimedTurn → Subject → List ℕ
+subjects_text layout m end turns subject = flat_map (subject_text layout m end turns subject) (range_with_len 1 (count_of m.world.state subject))
 
 -- the report of a program that has come to this moment by these turns, and whose play ends at this time
 abbrev pub timed_report_of : Program → Moment → ℕ → List TimedTurn → List ℕ
-timed_report_of program m end turns =
-    codes "report" ++ (newline ++ (timed_thread_lines m.world.state turns (total_of ticks_in (actor_turns turns))
-    ++ (timed_currency_lines m.world.state turns (total_of ticks_in (actor_turns turns))
-    ++ (flat_map (timed_processor_total m end (actor_turns turns)) (range_with_len 1 m.world.state.limits.processors)
-    ++ timed_whole_total m turns))))
+timed_report_of program m end turns = codes "report" ++ (newline ++ flat_map (subjects_text InLine m end turns) all_subjects)
 
 -- The early end of a play that has come to this moment by this many turns, or none unless another turn would follow.
 abbrev pub early_end : Program → Moment → ℕ → Option EarlyEnd

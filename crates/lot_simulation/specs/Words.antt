@@ -3,7 +3,7 @@ use Rattle.std.specs.Prelude.{ℕ, Bool, true, false, not, ◌||◌, Option, Som
 use Rattle.std.specs.Str.{bytes_eq}
 use Rattle.lot_machine.specs.declared.command.Kind.TheVariants.{Currencies, Threads, Tickets}
 use Rattle.lot_machine.specs.declared.trap.Trap.TheVariants as trap
-use Rattle.lot_machine.specs.declared.verb.Verb.TheVariants as verb
+use Rattle.lot_machine.specs.declared.command.Verb.TheVariants as verb
 use Rattle.lot_simulation.specs.declared.forms.Argument.{Argument}
 use Rattle.lot_simulation.specs.declared.forms.Argument.TheVariants.{Number, KnownName}
 use Rattle.lot_simulation.specs.declared.input.HeaderWord.{HeaderWord}

@@ -4,6 +4,7 @@
 //! Its tests stand in `lot_text_tests`, and those of warnings in `lot_system_tests`.
 #![tactic(auto)]
 
+mod columns;
 pub mod currencies;
 mod first_few;
 mod format;
@@ -26,6 +27,7 @@ mod warnings;
 mod words;
 pub mod worked;
 
+pub use columns::{COLUMNS, Cell, Column, Layout, Subject, Table, Unit};
 pub use first_few::FirstFew;
 pub use format::Format;
 pub use forms::{Argument, Form, Range};

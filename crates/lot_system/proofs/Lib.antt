@@ -6,7 +6,6 @@ pub mod TextFacts
 pub mod LineFacts
 pub mod PlayedFacts
 pub mod SeedFacts
-pub mod ChangedFacts
 pub mod RefusedFacts
 mod TableFacts
 pub mod Lemmas

@@ -1,15 +1,5 @@
 -- The report of timed turns is that of the definitions for all of the program's turns.
-use Rattle.lot_system.proofs.Common.{ActorTurn, AreCurrencies, AreDue, AreReadyFor, AreRefusedTraps, AreSpans, Counts, CurrencyShares, CurrencyTable, Due, EarlyEnd, IsAtEnd, Lines, List, Moment, None, Option, PastLives, Program, Record, ReportForm, Seen, Sizes, Some, Spans, State, Table, ThreadRow, ThreadShares, Threads, TimedProcessorTotal, TimedTurn, TimedWholeTotal, Timekeeper, World, actor_turns, ap, arith, at_number, base_time, clock_of, counted, currency_due_in, currency_name, currency_shares_in, currency_ticks_in, due_in, early_end, early_text, end_of, ended_at, fold, fold_push, following, idle_until, inl, inr, last_moment, length, length-map, life_change, live_part, live_time, live_value, map, moment_after_all, moment_in, mutex_change, no_lives, opening, opening_moment, opening_world, option_and_then, option_map, option_map_or, past_lives, processor_in, range_with_len, range_with_len-push, ready_in, refl, refusals_in, refused_traps_in, reply_change, report_at, room-few, room-small, row_of_thread, shares_in, spans_in, subst, sym, system_after, system_turn, thread_name, thread_row, ticks_in, timed-made, timed_currency_line, timed_currency_text, timed_report, timed_report_of, timed_thread_line, timed_thread_record, timed_thread_text, timed_turns, total_of, turn-limits, turns_made, turns_of, value_of, whole_in, with_lives, within-room, world_of, ℕ, [], ⊤, ◌++◌, ◌+◌, ◌<◌, ◌^◌, ◌∙◌, ◌∷◌, ◌≡◌, ◌⊎◌}
-
--- the form of a table
-abbrev pub IsTable : ReportForm → Type 0
-IsTable Lines = ⊥
-IsTable Table = ⊤
-IsTable CurrencyTable = ⊤
-
-pub is-table : (form : ReportForm) → (form ≡ Table) ⊎ (form ≡ CurrencyTable) → IsTable form
-is-table form (inl is) = rw is tt
-is-table form (inr is) = rw is tt
+use Rattle.lot_system.proofs.Common.{AreCurrencies, AreDue, AreReadyFor, AreRefusedTraps, AreSpans, Cell, Counts, Currency, Due, EarlyEnd, IsAtEnd, Layout, List, Moment, None, Option, PastLives, Processor, Program, Record, Seen, Sizes, Some, Spans, State, Subject, Thread, ThreadRow, Threads, TimedTurn, Timekeeper, Told, Total, World, [], actor_turns, ap, arith, at_number, counted, currency_cells, currency_name, early_end, early_text, end_of, ended_at, fold, fold_push, following, if_any, last_moment, length, length-map, life_change, live_part, map, mean, moment_after_all, moment_in, mutex_change, no_lives, opening, opening_moment, opening_world, option_and_then, option_map, option_map_or, quiet, range_with_len, range_with_len-push, refl, refusals_in, reply_change, report_at, room-few, room-small, row_of_thread, span_cells, spans_in, subject_text, subst, sym, system_after, system_turn, thread_cells, thread_name, thread_row, ticks_in, timed-made, timed_report, timed_report_of, timed_turns, told, told_in, told_text, total_of, turn-limits, turns_made, value_of, wait_cells, with_lives, within-room, world_of, ℕ, ◌++◌, ◌+◌, ◌<◌, ◌^◌, ◌∙◌, ◌∷◌, ◌≡◌}
 
 -- ---- all of the program's turns
 
@@ -97,22 +87,7 @@ pub early-line : (seen now : Seen) (timekeeper : Timekeeper) (program : Program)
     → early_text early ≡ early_text (early_end program (moment_in seen timekeeper) (length seen.history))
 early-line seen now timekeeper program early same is = ap early_text (is ∙ ap (λ (x : Seen). early_end program (moment_in x timekeeper) (length x.history)) same)
 
--- the lines of a report that ends at this time
-pub lines-are : (seen : Seen) (timekeeper : Timekeeper) (program : Program) (ended : ℕ) → ended ≡ ended_at program (moment_in seen timekeeper)
-    → timed_report_of program (moment_in seen timekeeper) ended (timed_turns seen.setting.program) ≡ timed_report_of program (moment_in seen timekeeper) (ended_at program (moment_in seen timekeeper)) (timed_turns seen.setting.program)
-lines-are seen timekeeper program ended is = ap (λ n. timed_report_of program (moment_in seen timekeeper) n (timed_turns seen.setting.program)) is
-
--- ---- lines by the numbers that they show
-
-pub whole-is : (c : Counts) (turns : List TimedTurn) (refused left : ℕ) (lives : PastLives) (m : Moment) → c ≡ counted (actor_turns turns) → refused ≡ total_of refusals_in (actor_turns turns)
-    → left ≡ length m.world.commands → lives ≡ past_lives m.world.state turns
-    → (let total : TimedWholeTotal = record { turns = c.turns; quanta = c.quanta; ticks = c.ticks; refused = refused; left = left; lives = lives } in total) ≡ whole_in m turns
-whole-is c turns refused left lives m is refusals rest past =
-    rw (is, refusals, rest, past, length-map turns (λ (done : TimedTurn). let answer : ActorTurn = record { actor = done.actor; answer = done.turn.answer } in answer)) refl
-
-pub processor-is : (c : Counts) (turns : List ActorTurn) (p end idle : ℕ) (m : Moment) → c ≡ counted (turns_of p turns) → idle ≡ idle_until end (clock_of m.clocks p)
-    → (let total : TimedProcessorTotal = record { processor = p; quanta = c.quanta; idles = c.idles; ticks = c.ticks; unused = idle } in total) ≡ processor_in m end turns p
-processor-is c turns p end idle m is unused = rw (is, unused) refl
+-- ---- what the report tells of a subject
 
 -- a thread's row shows its value
 row-value : (s : State) (t : ℕ) (row : ThreadRow) (name : Option (List ℕ)) (o : Option Record) → option_and_then (λ n. option_map (row_of_thread s t) o) name ≡ Some row → row.value ≡ value_of s t
@@ -120,49 +95,44 @@ row-value s t row None o is = absurd (cc)
 row-value s t row (Some name) None is = absurd (cc)
 row-value s t row (Some name) (Some r) is = let e : row_of_thread s t r ≡ row = cc in sym (ap (λ (x : ThreadRow). x.value) e)
 
--- what the report tells of a thread, by what was asked of the system
-pub shares-are : (s : State) (turns : List TimedTurn) (t all due lasted live values : ℕ) (ready mutexes replies lives : Spans) (refused : ℕ) → all ≡ total_of ticks_in (actor_turns turns) → due ≡ due_in (opening s.limits) turns t → lasted ≡ live_time (opening s.limits) turns → live ≡ live_part s t (value_of s t)
-    → values ≡ live_value s → ready ≡ ready_in turns t → mutexes ≡ spans_in mutex_change turns t → replies ≡ spans_in reply_change turns t → refused ≡ refused_traps_in turns t → lives ≡ spans_in life_change turns t
-    → record { all_ticks = all; due = due; live_time = lasted; live_value = live; all_values = values; ready = ready; mutexes = mutexes; replies = replies; refused_traps = refused; lives = lives } ≡ shares_in s turns t
-shares-are s turns t all due lasted live values ready mutexes replies lives refused ticks owed long own whole to_run for_mutex for_reply traps lived = rw (ticks, owed, long, own, whole, to_run, for_mutex, for_reply, traps, lived) (refl {a = shares_in s turns t})
-
 -- the ticks of all turns
 pub ticks-are : (seen last : Seen) (timekeeper : Timekeeper) (c : Counts) → IsAtEnd seen timekeeper → last ≡ seen → c ≡ counted (turns_made last.setting.program last.history)
     → c.ticks ≡ total_of ticks_in (actor_turns (timed_turns seen.setting.program))
 ticks-are seen last timekeeper c end same counts =
     ap (λ (x : Counts). x.ticks) counts ∙ ap (λ (x : Seen). total_of ticks_in (turns_made x.setting.program x.history)) same ∙ ap (total_of ticks_in) (turns-are seen timekeeper end)
 
-module _ (seen mid : Seen) (t : ℕ) (row : ThreadRow) (shares : ThreadShares) (same : mid ≡ seen) (is : Some row ≡ thread_row (world_of mid).state t)
-    (own : shares ≡ shares_in (world_of seen).state (timed_turns seen.setting.program) t) where
-  there : thread_row (world_of seen).state t ≡ Some row
-  there = ap (λ (x : Seen). thread_row (world_of x).state t) (sym same) ∙ sym is
+-- a live thread's part is that of the value in its row
+pub part-is : (s : State) (t : ℕ) (row : ThreadRow) → thread_row s t ≡ Some row → live_part s t (value_of s t) ≡ live_part s t row.value
+part-is s t row is = ap (live_part s t) (sym (row-value s t row (thread_name s t) (at_number s.records t) is))
 
-  -- a thread's line by its row, which the system shows while it stays as it is
-  pub thread-line : timed_thread_line t row shares ≡ option_map_or (timed_thread_text Lines (world_of seen).state (timed_turns seen.setting.program) t) (thread_row (world_of seen).state t) []
-  thread-line =
-      let s = (world_of seen).state in
-      let turns = timed_turns seen.setting.program in
-      let part : live_part s t (value_of s t) ≡ live_part s t row.value = ap (live_part s t) (sym (row-value s t row (thread_name s t) (at_number s.records t) there)) in
-      ap (timed_thread_line t row) own ∙ ap (λ live. timed_thread_line t row (record (shares_in s turns t) { live_value = live })) part
-      ∙ sym (ap (λ o. option_map_or (timed_thread_text Lines s turns t) o []) there)
+-- the text of what the report tells of a subject, if it exists
+pub text-is : (layout : Layout) (m : Moment) (end : ℕ) (turns : List TimedTurn) (subject : Subject) (n : ℕ)
+    → option_map_or (λ (told : Told). told_text layout subject n told.name told.cells.items) (told_in m end turns subject n) [] ≡ subject_text layout m end turns subject n
+text-is layout m end turns Thread t = of-row (thread_row m.world.state t)
+  where
+    of-row : (o : Option ThreadRow) → option_map_or (λ (told : Told). told_text layout Thread t told.name told.cells.items) (option_map (λ (row : ThreadRow). told row.name (thread_cells m.world.state turns t row)) o) []
+        ≡ option_map_or (λ (row : ThreadRow). told_text layout Thread t row.name (thread_cells m.world.state turns t row)) o []
+    of-row None = refl
+    of-row (Some row) = refl
+text-is layout m end turns Currency c = of-name (currency_name m.world.state c)
+  where
+    of-name : (o : Option (List ℕ)) → option_map_or (λ (told : Told). told_text layout Currency c told.name told.cells.items) (option_map (λ (name : List ℕ). told name (currency_cells m.world.state turns c)) o) []
+        ≡ option_map_or (λ (name : List ℕ). told_text layout Currency c name (currency_cells m.world.state turns c)) o []
+    of-name None = refl
+    of-name (Some name) = refl
+text-is layout m end turns Processor p = refl
+text-is layout m end turns Total n = refl
 
-  -- the same for its row in the table
-  pub thread-record : (form : ReportForm) → IsTable form → timed_thread_record t row shares ≡ option_map_or (timed_thread_text form (world_of seen).state (timed_turns seen.setting.program) t) (thread_row (world_of seen).state t) []
-  thread-record Table table = ap (timed_thread_record t row) own ∙ sym (ap (λ o. option_map_or (timed_thread_text Table (world_of seen).state (timed_turns seen.setting.program) t) o []) there)
-  thread-record CurrencyTable table = ap (timed_thread_record t row) own ∙ sym (ap (λ o. option_map_or (timed_thread_text CurrencyTable (world_of seen).state (timed_turns seen.setting.program) t) o []) there)
-  thread-record Lines table = absurd table
+-- ---- cells of spans of time
 
--- ---- currencies
+-- of a thread's waits of one kind
+pub waits-are : (count average longest : Cell) (w v : Spans) → count ≡ quiet w.count → average ≡ mean w.total w.count → longest ≡ if_any w.count w.longest → w ≡ v → count ∷ average ∷ longest ∷ [] ≡ wait_cells v
+waits-are count average longest w v one two three is = (λ i. one i ∷ two i ∷ three i ∷ []) ∙ ap wait_cells is
 
--- what the report tells of a currency, by what was asked of the system
-pub currency-shares-are : (s : State) (turns : List TimedTurn) (c ticks all due lasted : ℕ) → ticks ≡ currency_ticks_in (opening s.limits) turns c → all ≡ total_of ticks_in (actor_turns turns) → due ≡ currency_due_in (opening s.limits) turns c → lasted ≡ base_time (opening s.limits) turns
-    → record { ticks = ticks; all_ticks = all; due = due; base_time = lasted } ≡ currency_shares_in s turns c
-currency-shares-are s turns c ticks all due lasted below whole owed long = λ i. record { ticks = below i; all_ticks = whole i; due = owed i; base_time = long i }
-
-module _ (seen : Seen) (c : ℕ) (name : List ℕ) (shares : CurrencyShares) (is : Some name ≡ currency_name (world_of seen).state c) (own : shares ≡ currency_shares_in (world_of seen).state (timed_turns seen.setting.program) c) where
-  -- a currency's line by its name
-  pub currency-line : timed_currency_line c name shares ≡ option_map_or (timed_currency_text Lines (world_of seen).state (timed_turns seen.setting.program) c) (currency_name (world_of seen).state c) []
-  currency-line = ap (timed_currency_line c name) own ∙ ap (λ o. option_map_or (timed_currency_text Lines (world_of seen).state (timed_turns seen.setting.program) c) o []) is
+-- of past lives
+pub lives-cells : (count average longest : Cell) (l m : PastLives) → count ≡ quiet l.count → average ≡ mean l.total l.count → longest ≡ if_any l.count l.longest → l ≡ m
+    → count ∷ average ∷ longest ∷ [] ≡ span_cells m.count m.total m.longest
+lives-cells count average longest l m one two three is = (λ i. one i ∷ two i ∷ three i ∷ []) ∙ ap (λ (lives : PastLives). span_cells lives.count lives.total lives.longest) is
 
 -- ---- past lives
 

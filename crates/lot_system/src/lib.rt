@@ -5,6 +5,7 @@
 #![tactic(auto)]
 
 mod answers;
+mod cells;
 mod ending;
 mod figures;
 mod form;
@@ -20,10 +21,9 @@ mod report_table;
 mod reports;
 pub mod rows;
 mod seeds;
-mod spreads;
 mod summary;
-mod timed_currencies;
 mod timed_report;
+mod told;
 mod warnings;
 
 pub use answers::{heading, printed_actor, put_answer, style_of};

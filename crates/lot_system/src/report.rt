@@ -11,29 +11,28 @@ ghost use Rattle.lot_engine.specs.Seen.{world_of};
 ghost use Rattle.lot_io.specs.Writing.{Writes};
 ghost use Rattle.lot_system.specs.ReportTable.{thread_text};
 
-use crate::ReportForm;
+use crate::cells::number as cell;
+use crate::told::no_name;
 use lot_engine::{Settled, System};
 use lot_io::{IoFault, Watched};
 use lot_machine::ThreadNumber;
-use lot_print::{
-    ProcessorTotal, WholeTotal, write_processor_total, write_report_line, write_thread_record,
-    write_thread_total, write_whole_total,
-};
+use lot_print::{write_report_line, write_told};
+use lot_simulation::{Layout, Subject};
 use std::io::Write;
 
 /// Writes each thread's line or row.
 pub(crate) fn write_threads<W: Write>(
     settled: Settled<'_>,
-    form: ReportForm,
+    layout: Layout,
     writer: &mut Watched<W>,
 ) -> Result<(), IoFault>
     requires { writer.old.failed ≡ false }
     ensures { Writes W.contents writer.old writer.new result
-        (lines_for (thread_text form) (thread_row settled.entry.kernel.now.state)
+        (lines_for (thread_text layout) (thread_row settled.entry.kernel.now.state)
         (numbers settled.entry.kernel.now.state.records)) }
 {
     for place in 0..settled.kernel.thread_count() {
-        write_thread(settled, form, place + 1, writer)?;
+        write_thread(settled, layout, place + 1, writer)?;
     }
     Ok(())
 }
@@ -41,21 +40,19 @@ pub(crate) fn write_threads<W: Write>(
 /// Writes the line or the row of the thread with this number, if it exists.
 fn write_thread<W: Write>(
     settled: Settled<'_>,
-    form: ReportForm,
+    layout: Layout,
     number: u32,
     writer: &mut Watched<W>,
 ) -> Result<(), IoFault>
     requires { writer.old.failed ≡ false }
     ensures { Writes W.contents writer.old writer.new result
-        (option_map_or (thread_text form number) (thread_row settled.entry.kernel.now.state number) []) }
+        (option_map_or (thread_text layout number) (thread_row settled.entry.kernel.now.state number) []) }
 {
     let Some(row) = settled.thread_row(ThreadNumber { number }) else {
         return Ok(());
     };
-    match form {
-        ReportForm::Lines => write_thread_total(writer, number, &row),
-        ReportForm::Table | ReportForm::CurrencyTable => write_thread_record(writer, number, &row),
-    }
+    let cells = [cell(row.quanta), cell(row.ticks)];
+    write_told(writer, layout, Subject::Thread, number, &row.name, &cells)
 }
 
 /// Writes each processor's line.
@@ -83,13 +80,15 @@ fn write_processor<W: Write>(
         (reports.processor_total (turns_made system.now.setting.program system.now.history) processor) }
 {
     let counts = system.counts(processor);
-    let total = ProcessorTotal {
+    let cells = [cell(counts.quanta), cell(counts.idles), cell(counts.ticks)];
+    write_told(
+        writer,
+        Layout::InLine,
+        Subject::Processor,
         processor,
-        quanta: counts.quanta,
-        idles: counts.idles,
-        ticks: counts.ticks,
-    };
-    write_processor_total(writer, total)
+        &no_name(),
+        &cells,
+    )
 }
 
 /// Writes the totals of all actors.
@@ -100,12 +99,19 @@ fn write_total<W: Write>(system: &System, writer: &mut Watched<W>) -> Result<(),
         (turns_made system.now.setting.program system.now.history)) }
 {
     let counts = system.total();
-    let total = WholeTotal {
-        turns: system.turn_count(),
-        quanta: counts.quanta,
-        ticks: counts.ticks,
-    };
-    write_whole_total(writer, total)
+    let cells = [
+        cell(system.turn_count()),
+        cell(counts.quanta),
+        cell(counts.ticks),
+    ];
+    write_told(
+        writer,
+        Layout::InLine,
+        Subject::Total,
+        1,
+        &no_name(),
+        &cells,
+    )
 }
 
 /// Writes the report: a line for each thread, a line for each processor, and the totals. Fails with `Write` if the
@@ -117,7 +123,7 @@ pub fn write_report<W: Write>(system: &mut System, writer: &mut Watched<W>) -> R
         (reports.report system.old.setting.program system.old.history) }
 {
     write_report_line(writer)?;
-    write_threads(system.settle(), ReportForm::Lines, writer)?;
+    write_threads(system.settle(), Layout::InLine, writer)?;
     write_processors(system, writer)?;
     write_total(system, writer)
 }

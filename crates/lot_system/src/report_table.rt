@@ -1,24 +1,26 @@
 //! The report as a table.
 ghost use Rattle.std.specs.Prelude.{◌≡◌, ◌||◌, [], false, true, OnOk};
+ghost use Rattle.lot_simulation.specs.Timed as timed;
 ghost use Rattle.lot_simulation.specs.Timed.{timed_turns};
 ghost use Rattle.lot_engine.specs.Seen.{world_of};
 ghost use Rattle.lot_io.specs.Writing.{Writes};
-ghost use Rattle.lot_playback.specs.InTime.{IsAtEnd};
+ghost use Rattle.lot_playback.specs.InTime.{IsAtEnd, moment_in};
 ghost use Rattle.lot_playback.specs.Orders.{IsInOrder, made_in};
 ghost use Rattle.lot_playback.specs.Stages.{HasMade, turns_left};
 ghost use Rattle.lot_playback.specs.Turns.{program_turns};
 ghost use Rattle.lot_system.specs.Leaving.{ends_refused};
-ghost use Rattle.lot_system.specs.ReportTable.{currency_table, last_table, scheduled_table, table_in, timed_table};
+ghost use Rattle.lot_system.specs.ReportTable as tables;
+ghost use Rattle.lot_system.specs.ReportTable.{last_table, scheduled_table, timed_table};
 
 use crate::reports::note_ended;
-use crate::timed_currencies::write_currencies;
+use crate::told::ending_of;
 use crate::{ReportForm, report, timed_report};
 use lot_engine::System;
 use lot_io::{IoFault, Watched, flush};
 use lot_playback::{Order, Playback, Timekeeper};
-use lot_print::{Columns, write_header};
+use lot_print::write_header;
 use lot_program::Program;
-use lot_simulation::Warnings;
+use lot_simulation::{Layout, Table, Warnings};
 use std::io::Write;
 
 /// Ends a play whose turns are all made: writes the table, flushes, and records the end of the system in the warnings,
@@ -80,7 +82,19 @@ fn write_table<W: Write>(
 {
     match order {
         Order::Scheduled(_) => write_scheduled(system, writer),
-        Order::InTime(timekeeper) => write_in_form(system, timekeeper, form, writer),
+        Order::InTime(timekeeper) => {
+            write_timed(program, system, timekeeper, table_in(form), writer)
+        }
+    }
+}
+
+/// The table in this form of a timed program.
+fn table_in(form: ReportForm) -> Table
+    ensures { result ≡ tables.table_in form }
+{
+    match form {
+        ReportForm::Lines | ReportForm::Table => Table::Timed,
+        ReportForm::CurrencyTable => Table::Currencies,
     }
 }
 
@@ -91,56 +105,29 @@ fn write_scheduled<W: Write>(system: &mut System, writer: &mut Watched<W>) -> Re
     ensures text { Writes W.contents writer.old writer.new result
         (scheduled_table (world_of system.old).state) }
 {
-    write_header(writer, Columns::Totals)?;
-    report::write_threads(system.settle(), ReportForm::Table, writer)
+    write_header(writer, Table::Schedule, false)?;
+    report::write_threads(system.settle(), Layout::InTable, writer)
 }
 
-/// Writes the table of a timed program: of its currencies if the form says so, otherwise of its threads.
-fn write_in_form<W: Write>(
-    system: &mut System,
-    timekeeper: &Timekeeper,
-    form: ReportForm,
-    writer: &mut Watched<W>,
-) -> Result<(), IoFault>
-    requires end { IsAtEnd system.old timekeeper.now }
-    requires working { writer.old.failed ≡ false }
-    ensures same { system.new ≡ system.old }
-    ensures text { Writes W.contents writer.old writer.new result
-        (table_in form (world_of system.old).state (timed_turns system.old.setting.program)) }
-{
-    match form {
-        ReportForm::CurrencyTable => write_currencies_table(system, timekeeper, writer),
-        ReportForm::Lines | ReportForm::Table => write_timed(system, timekeeper, writer),
-    }
-}
-
-/// Writes the table of a timed program: the columns' names, and each thread's row.
+/// Writes this table of a timed program: the columns' names, and the row of each of its subjects.
 fn write_timed<W: Write>(
+    program: &Program,
     system: &mut System,
     timekeeper: &Timekeeper,
+    table: Table,
     writer: &mut Watched<W>,
 ) -> Result<(), IoFault>
+    requires program { system.old.setting.program ≡ program.now }
     requires end { IsAtEnd system.old timekeeper.now }
     requires working { writer.old.failed ≡ false }
     ensures same { system.new ≡ system.old }
     ensures text { Writes W.contents writer.old writer.new result
-        (timed_table (world_of system.old).state (timed_turns system.old.setting.program)) }
+        (timed_table table (moment_in system.old timekeeper.now)
+        (timed.ended_at program.now (moment_in system.old timekeeper.now))
+        (timed_turns system.old.setting.program)) }
 {
-    write_header(writer, Columns::TimedTotals)?;
-    timed_report::write_threads(system, timekeeper, ReportForm::Table, writer)
-}
-
-/// Writes the table of a timed program's currencies: the columns' names, and each currency's row.
-fn write_currencies_table<W: Write>(
-    system: &System,
-    timekeeper: &Timekeeper,
-    writer: &mut Watched<W>,
-) -> Result<(), IoFault>
-    requires end { IsAtEnd system.now timekeeper.now }
-    requires working { writer.old.failed ≡ false }
-    ensures { Writes W.contents writer.old writer.new result
-        (currency_table (world_of system.now).state (timed_turns system.now.setting.program)) }
-{
-    write_header(writer, Columns::Currencies)?;
-    write_currencies(system, timekeeper, ReportForm::CurrencyTable, writer)
+    write_header(writer, table, false)?;
+    let ending = ending_of(program, system, timekeeper);
+    let subject = table.subject();
+    timed_report::write_subjects(system, timekeeper, ending, Layout::InTable, subject, writer)
 }

@@ -1,29 +1,25 @@
 //! The report over several plays of a program, each with another seed.
-ghost use Rattle.std.specs.Prelude.{◌≡◌, [], ◌∷◌, ◌++◌, ◌||◌, false, true, IfOk, OnOk, Some, length};
+ghost use Rattle.std.specs.Prelude.{◌≡◌, [], ◌∷◌, ◌||◌, false, flat_map, true, IfOk, None, OnOk, Some};
 ghost use Rattle.lot_io.specs.Writing.{Writes};
+ghost use Rattle.lot_simulation.specs.Columns.{all_subjects};
 ghost use Rattle.lot_simulation.specs.Seeded.{with_seed};
 ghost use Rattle.lot_system.specs.Leaving.{any_ends_refused, ends_refused};
 ghost use Rattle.lot_system.specs.Played.{Plays};
 ghost use Rattle.lot_system.specs.Seeds as seeds_specs;
-ghost use Rattle.lot_system.specs.Seeds.{AreAllFigures, AreEach, AreOverOneMore, figures_over, figures_text};
-ghost use Rattle.lot_system.specs.Seeds.{others_text, processor_over, processor_text, processors_text, seeds_between};
-ghost use Rattle.lot_system.specs.Seeds.{seeds_heading, seeds_report, subjects_text, totals_text, whole_text};
+ghost use Rattle.lot_system.specs.Seeds.{AreAllFigures, AreMany, AreOverOneMore, figures_text, seeds_between};
+ghost use Rattle.lot_system.specs.Seeds.{seeds_heading, seeds_report, subjects_in, subjects_over};
 ghost use Rattle.lot_system.specs.declared.inputs.Played.TheVariants.{Done};
 ghost use Rattle.lot_playback.specs.Stages.{HasMade};
-ghost use Rattle.lot_print.specs.declared.figures.Subject.TheVariants as subjects;
 
-use crate::figures::{AllFigures, add_play};
+use crate::figures::{AllFigures, add_play, most_of};
 use crate::reports::note_ended;
 use crate::summary::note_turns;
 use crate::{Played, ReportForm};
 use lot_io::{IoFault, Watched, flush};
 use lot_playback::Playback;
-use lot_print::{
-    Columns, Figures, FiguresTable, ProcessorFigures, Subject, WholeFigures, write_figures,
-    write_figures_record, write_header, write_processor_figures, write_seeds, write_whole_figures,
-};
+use lot_print::{Figures, write_figures, write_figures_record, write_header, write_seeds};
 use lot_program::{Program, Seed};
-use lot_simulation::Warnings;
+use lot_simulation::{Subject, Table, Warnings};
 use std::alloc::{AllocError, Global};
 use std::io::Write;
 
@@ -132,9 +128,7 @@ fn play_with(
     warnings: &mut Warnings,
     all: &mut AllFigures,
 ) -> Result<(), AllocError>
-    requires threads { length all.old.threads.items ≡ program.now.limits.threads }
-    requires currencies { length all.old.currencies.items ≡ program.now.limits.currencies }
-    requires processors { length all.old.processors.items ≡ program.now.limits.processors }
+    requires many { AreMany program.now all.old }
     ensures played { OnOk result (AreOverOneMore (with_seed (Some seed) program.now) all.old all.new) }
     ensures stopped { OnOk result (warnings.new.stopped
         ≡ (warnings.old.stopped || ends_refused (with_seed (Some seed) program.now))) }
@@ -157,9 +151,7 @@ fn play_seeded(
     warnings: &mut Warnings,
     all: &mut AllFigures,
 ) -> Result<(), AllocError>
-    requires threads { length all.old.threads.items ≡ program.now.limits.threads }
-    requires currencies { length all.old.currencies.items ≡ program.now.limits.currencies }
-    requires processors { length all.old.processors.items ≡ program.now.limits.processors }
+    requires many { AreMany program.now all.old }
     ensures played { OnOk result (AreOverOneMore program.now all.old all.new) }
     ensures stopped { OnOk result (warnings.new.stopped ≡ (warnings.old.stopped || ends_refused program.now)) }
 {
@@ -177,9 +169,7 @@ fn add_playback(
 )
     requires none { playback.made ≡ 0 }
     requires made { HasMade program.now [] playback.seen }
-    requires threads { length all.old.threads.items ≡ program.now.limits.threads }
-    requires currencies { length all.old.currencies.items ≡ program.now.limits.currencies }
-    requires processors { length all.old.processors.items ≡ program.now.limits.processors }
+    requires many { AreMany program.now all.old }
     ensures played { AreOverOneMore program.now all.old all.new }
     ensures stopped { warnings.new.stopped ≡ (warnings.old.stopped || ends_refused program.now) }
 {
@@ -190,18 +180,18 @@ fn add_playback(
 }
 
 /// The table of the program in this form, or `None` for lines.
-fn table_of(form: ReportForm, program: &Program) -> Option<FiguresTable>
+fn table_of(form: ReportForm, program: &Program) -> Option<Table>
     ensures { result ≡ seeds_specs.table_of form program.now.duration }
 {
     match (form, program.duration()) {
         (ReportForm::Lines, _) => None,
-        (ReportForm::Table | ReportForm::CurrencyTable, None) => Some(FiguresTable::Schedule),
-        (ReportForm::Table, Some(_)) => Some(FiguresTable::Timed),
-        (ReportForm::CurrencyTable, Some(_)) => Some(FiguresTable::OfCurrencies),
+        (ReportForm::Table | ReportForm::CurrencyTable, None) => Some(Table::Schedule),
+        (ReportForm::Table, Some(_)) => Some(Table::Timed),
+        (ReportForm::CurrencyTable, Some(_)) => Some(Table::Currencies),
     }
 }
 
-/// Writes the first line, and the lines of each thread and of each currency, or the rows of a table, and flushes.
+/// Writes the first line, and the lines of each subject, or the rows of a table, and flushes.
 fn write_report<W: Write>(
     program: &Program,
     seeds: &Seeds,
@@ -224,7 +214,7 @@ fn write_report<W: Write>(
 /// Writes the first line or row.
 fn write_heading<W: Write>(
     seeds: &Seeds,
-    table: Option<FiguresTable>,
+    table: Option<Table>,
     writer: &mut Watched<W>,
 ) -> Result<(), IoFault>
     requires { writer.old.failed ≡ false }
@@ -233,153 +223,77 @@ fn write_heading<W: Write>(
 {
     match table {
         None => write_seeds(writer, seeds.first.number(), seeds.last.number()),
-        Some(table) => write_header(writer, Columns::Figures(table)),
+        Some(table) => write_header(writer, table, true),
     }
 }
 
-/// Writes the lines after the first, or the rows.
+/// Writes the lines of all subjects, or the rows of the table's.
 fn write_lines<W: Write>(
     program: &Program,
     seeds: &Seeds,
     all: &AllFigures,
-    table: Option<FiguresTable>,
+    table: Option<Table>,
     writer: &mut Watched<W>,
 ) -> Result<(), IoFault>
     requires are { AreAllFigures program.now (seeds_between seeds.now.first seeds.now.last) all.now }
     requires working { writer.old.failed ≡ false }
     ensures { Writes W.contents writer.old writer.new result
-        (subjects_text table subjects.Thread program.now (seeds_between seeds.now.first seeds.now.last)
-        ++ others_text table program.now (seeds_between seeds.now.first seeds.now.last)) }
+        (flat_map (subjects_over table program.now (seeds_between seeds.now.first seeds.now.last))
+        (subjects_in table)) }
 {
-    let threads = all.threads.as_slice();
-    write_subjects(program, seeds, Subject::Thread, threads, table, writer)?;
-    write_others(program, seeds, all, table, writer)
+    match table {
+        None => write_all(program, seeds, all, writer),
+        Some(table) => write_subjects(program, seeds, table.subject(), all, Some(table), writer),
+    }
 }
 
-/// Writes the lines after those of the threads, or the rows of the currencies.
-fn write_others<W: Write>(
+/// Writes the lines of all subjects.
+fn write_all<W: Write>(
     program: &Program,
     seeds: &Seeds,
     all: &AllFigures,
-    table: Option<FiguresTable>,
     writer: &mut Watched<W>,
 ) -> Result<(), IoFault>
     requires are { AreAllFigures program.now (seeds_between seeds.now.first seeds.now.last) all.now }
     requires working { writer.old.failed ≡ false }
     ensures { Writes W.contents writer.old writer.new result
-        (others_text table program.now (seeds_between seeds.now.first seeds.now.last)) }
+        (flat_map (subjects_over None program.now (seeds_between seeds.now.first seeds.now.last)) all_subjects) }
 {
-    let currencies = all.currencies.as_slice();
-    write_subjects(program, seeds, Subject::Currency, currencies, table, writer)?;
-    write_totals(program, seeds, all, table, writer)
-}
-
-/// Writes the lines after those of the currencies.
-fn write_totals<W: Write>(
-    program: &Program,
-    seeds: &Seeds,
-    all: &AllFigures,
-    table: Option<FiguresTable>,
-    writer: &mut Watched<W>,
-) -> Result<(), IoFault>
-    requires are { AreAllFigures program.now (seeds_between seeds.now.first seeds.now.last) all.now }
-    requires working { writer.old.failed ≡ false }
-    ensures { Writes W.contents writer.old writer.new result
-        (totals_text table program.now (seeds_between seeds.now.first seeds.now.last)) }
-{
-    write_processors(program, seeds, all.processors.as_slice(), table, writer)?;
-    write_whole(&all.whole, table, writer)
-}
-
-/// Writes the line of each processor; tables have none.
-fn write_processors<W: Write>(
-    program: &Program,
-    seeds: &Seeds,
-    figures: &[ProcessorFigures],
-    table: Option<FiguresTable>,
-    writer: &mut Watched<W>,
-) -> Result<(), IoFault>
-    requires are { AreEach program.now.limits.processors
-        (processor_over program.now (seeds_between seeds.now.first seeds.now.last)) figures.now }
-    requires working { writer.old.failed ≡ false }
-    ensures { Writes W.contents writer.old writer.new result
-        (processors_text table program.now (seeds_between seeds.now.first seeds.now.last)) }
-{
-    for place in 0..program.limits().processors {
-        write_processor(place + 1, &figures[place as usize], table, writer)?;
+    let mut rest: &[Subject] = &Subject::ALL;
+    while let [subject, others @ ..] = rest {
+        write_subjects(program, seeds, *subject, all, None, writer)?;
+        rest = others;
     }
     Ok(())
 }
 
-/// Writes the line of this processor, if the plays have its figures; tables have none.
-fn write_processor<W: Write>(
-    number: u32,
-    figures: &ProcessorFigures,
-    table: Option<FiguresTable>,
-    writer: &mut Watched<W>,
-) -> Result<(), IoFault>
-    requires { writer.old.failed ≡ false }
-    ensures { Writes W.contents writer.old writer.new result (processor_text table number figures.now) }
-{
-    if table.is_some() || figures.plays == 0 {
-        return Ok(());
-    }
-    write_processor_figures(writer, number, figures)
-}
-
-/// Writes the last lines, if the plays have their figures; tables have none.
-fn write_whole<W: Write>(
-    figures: &WholeFigures,
-    table: Option<FiguresTable>,
-    writer: &mut Watched<W>,
-) -> Result<(), IoFault>
-    requires { writer.old.failed ≡ false }
-    ensures { Writes W.contents writer.old writer.new result (whole_text table figures.now) }
-{
-    if table.is_some() || figures.plays == 0 {
-        return Ok(());
-    }
-    write_whole_figures(writer, figures)
-}
-
-/// The largest number of threads, or of currencies, that the program may have at once.
-fn count_of(subject: Subject, program: &Program) -> u32
-    ensures { result ≡ seeds_specs.count_of subject program.now }
-{
-    let limits = program.limits();
-    match subject {
-        Subject::Thread => limits.threads,
-        Subject::Currency => limits.currencies,
-    }
-}
-
-/// Writes the lines or rows of each thread, or of each currency.
+/// Writes the lines or rows of all subjects of this kind.
 fn write_subjects<W: Write>(
     program: &Program,
     seeds: &Seeds,
     subject: Subject,
-    figures: &[Figures],
-    table: Option<FiguresTable>,
+    all: &AllFigures,
+    table: Option<Table>,
     writer: &mut Watched<W>,
 ) -> Result<(), IoFault>
-    requires are { AreEach (seeds_specs.count_of subject program.now)
-        (figures_over subject program.now (seeds_between seeds.now.first seeds.now.last)) figures.now }
+    requires are { AreAllFigures program.now (seeds_between seeds.now.first seeds.now.last) all.now }
     requires working { writer.old.failed ≡ false }
     ensures { Writes W.contents writer.old writer.new result
-        (subjects_text table subject program.now (seeds_between seeds.now.first seeds.now.last)) }
+        (subjects_over table program.now (seeds_between seeds.now.first seeds.now.last) subject) }
 {
-    for place in 0..count_of(subject, program) {
+    let figures = all.of(subject);
+    for place in 0..most_of(subject, program) {
         write_subject(subject, place + 1, &figures[place as usize], table, writer)?;
     }
     Ok(())
 }
 
-/// Writes the lines or the row of the thread or the currency with this number, if a play ended with it.
+/// Writes the lines or the row of the subject with this number, if a play ended with it.
 fn write_subject<W: Write>(
     subject: Subject,
     number: u32,
     figures: &Figures,
-    table: Option<FiguresTable>,
+    table: Option<Table>,
     writer: &mut Watched<W>,
 ) -> Result<(), IoFault>
     requires { writer.old.failed ≡ false }
@@ -388,10 +302,8 @@ fn write_subject<W: Write>(
     if figures.plays == 0 {
         return Ok(());
     }
-    match (table, subject) {
-        (None, _) => write_figures(writer, subject, number, figures),
-        (Some(FiguresTable::OfCurrencies), Subject::Thread) => Ok(()),
-        (Some(FiguresTable::Schedule | FiguresTable::Timed), Subject::Currency) => Ok(()),
-        (Some(table), _) => write_figures_record(writer, table, number, figures),
+    match table {
+        None => write_figures(writer, subject, number, figures),
+        Some(table) => write_figures_record(writer, table, number, figures),
     }
 }

@@ -1,33 +1,25 @@
 //! The report of a timed program.
-ghost use Rattle.std.specs.Prelude.{◌≡◌, ◌+◌, ◌<◌, ◌^◌, [], false, length};
-ghost use Rattle.std.specs.List.{flat_map, range_with_len};
-ghost use Rattle.std.specs.Option.{option_map_or};
+ghost use Rattle.std.specs.Prelude.{◌≡◌, ◌≤◌, false, flat_map, length};
 ghost use Rattle.lot_machine.specs.Bounds.{IsBetween};
 ghost use Rattle.lot_machine.specs.Facts as facts;
-ghost use Rattle.lot_machine.specs.Numbered.{numbers};
-ghost use Rattle.lot_machine.specs.Rows.{thread_row};
-ghost use Rattle.lot_simulation.specs.Texts.{lines_for};
+ghost use Rattle.lot_simulation.specs.Columns.{all_subjects};
 ghost use Rattle.lot_simulation.specs.Timed as timed;
 ghost use Rattle.lot_simulation.specs.Timed.{timed_turns};
 ghost use Rattle.lot_simulation.specs.TimedReport as reports;
-ghost use Rattle.lot_simulation.specs.TimedReport.{actor_turns};
+ghost use Rattle.lot_simulation.specs.TimedReport.{subject_text, subjects_text};
+ghost use Rattle.lot_simulation.specs.declared.columns.Layout.TheVariants.{InLine};
 ghost use Rattle.lot_playback.specs.InTime.{IsAtEnd, IsFollowed, moment_in};
 ghost use Rattle.lot_engine.specs.Seen.{world_of};
 ghost use Rattle.lot_io.specs.Writing.{Writes};
-ghost use Rattle.lot_system.specs.ReportTable.{processor_in, shares_in, timed_thread_text, whole_in};
+ghost use Rattle.lot_system.specs.ReportTable.{most_of};
 
-use crate::ReportForm;
-use crate::timed_currencies::write_currencies;
+use crate::told::{Ending, ending_of, told_of};
 use lot_engine::System;
 use lot_io::{IoFault, Watched};
-use lot_playback::{Timekeeper, live_value};
-use lot_print::{
-    ThreadShares, TimedProcessorTotal, TimedWholeTotal, write_early_end, write_report_line,
-    write_timed_processor_total, write_timed_thread_record, write_timed_thread_total,
-    write_timed_whole_total,
-};
+use lot_playback::Timekeeper;
+use lot_print::{write_early_end, write_report_line, write_told};
 use lot_program::Program;
-use lot_simulation::{EarlyEnd, PastLives, Spans};
+use lot_simulation::{EarlyEnd, Layout, Subject};
 use std::io::Write;
 
 /// Writes the report of a system that has made all of its timed program's turns: a line for each thread, each currency
@@ -96,230 +88,105 @@ fn write_lines<W: Write>(
         (timed.ended_at program.now (moment_in system.old timekeeper.now)) (timed_turns system.old.setting.program)) }
 {
     write_report_line(writer)?;
-    let end = ended_at(program, system, timekeeper);
-    write_threads(system, timekeeper, ReportForm::Lines, writer)?;
-    write_currencies(system, timekeeper, ReportForm::Lines, writer)?;
-    write_processors(system, timekeeper, end, writer)?;
-    write_total(system, timekeeper, writer)
+    let ending = ending_of(program, system, timekeeper);
+    write_all(system, timekeeper, ending, writer)
 }
 
-/// The time at which the play ended: the end that the input gives, or after an early end the last turn's time.
-pub(crate) fn ended_at(program: &Program, system: &System, timekeeper: &Timekeeper) -> u32
-    requires program { system.now.setting.program ≡ program.now }
-    requires end { IsAtEnd system.now timekeeper.now }
-    ensures { result ≡ timed.ended_at program.now (moment_in system.now timekeeper.now) }
-{
-    match timekeeper.following(program, system) {
-        Some(_) => timekeeper.clocks.time,
-        None => program.duration().unwrap_or(0),
-    }
-}
-
-/// Writes each thread's line or row.
-pub(crate) fn write_threads<W: Write>(
+/// Writes the lines of all subjects.
+fn write_all<W: Write>(
     system: &mut System,
     timekeeper: &Timekeeper,
-    form: ReportForm,
+    ending: Ending,
     writer: &mut Watched<W>,
 ) -> Result<(), IoFault>
     requires end { IsAtEnd system.old timekeeper.now }
+    requires values { ending.all_values ≡ facts.live_value (world_of system.old).state }
     requires working { writer.old.failed ≡ false }
     ensures same { system.new ≡ system.old }
     ensures text { Writes W.contents writer.old writer.new result
-        (lines_for (timed_thread_text form (world_of system.old).state (timed_turns system.old.setting.program))
-        (thread_row (world_of system.old).state) (numbers (world_of system.old).state.records)) }
+        (flat_map (subjects_text InLine (moment_in system.old timekeeper.now) ending.time
+        (timed_turns system.old.setting.program)) all_subjects) }
 {
-    let all_values = live_value(system);
-    for place in 0..system.thread_count() {
-        write_thread(system, timekeeper, form, place + 1, all_values, writer)?;
+    let mut rest: &[Subject] = &Subject::ALL;
+    while let [subject, others @ ..] = rest {
+        write_subjects(system, timekeeper, ending, Layout::InLine, *subject, writer)?;
+        rest = others;
     }
     Ok(())
 }
 
-/// Writes the thread's line or row.
-fn write_thread<W: Write>(
+/// Writes the lines or rows of all subjects of this kind.
+pub(crate) fn write_subjects<W: Write>(
     system: &mut System,
     timekeeper: &Timekeeper,
-    form: ReportForm,
-    thread: u32,
-    all_values: u128,
+    ending: Ending,
+    layout: Layout,
+    subject: Subject,
     writer: &mut Watched<W>,
 ) -> Result<(), IoFault>
     requires end { IsAtEnd system.old timekeeper.now }
-    requires there { IsBetween 1 system.old.setting.program.limits.threads thread }
-    requires values { all_values ≡ facts.live_value (world_of system.old).state }
-    requires small { all_values < 2 ^ 96 }
+    requires values { ending.all_values ≡ facts.live_value (world_of system.old).state }
     requires working { writer.old.failed ≡ false }
     ensures same { system.new ≡ system.old }
     ensures text { Writes W.contents writer.old writer.new result
-        (option_map_or (timed_thread_text form (world_of system.old).state
-        (timed_turns system.old.setting.program) thread) (thread_row (world_of system.old).state thread) []) }
+        (subjects_text layout (moment_in system.old timekeeper.now) ending.time
+        (timed_turns system.old.setting.program) subject) }
 {
-    let shares = shares_of(system, timekeeper, thread, all_values);
-    let Some(row) = system.thread_row(thread) else {
+    for place in 0..count_of(system, subject) {
+        write_subject(
+            system,
+            timekeeper,
+            ending,
+            layout,
+            subject,
+            place + 1,
+            writer,
+        )?;
+    }
+    Ok(())
+}
+
+/// The number of subjects of this kind, those that don't exist any more included.
+fn count_of(system: &System, subject: Subject) -> u32
+    ensures count { result ≡ reports.count_of (world_of system.now).state subject }
+    ensures within { result ≤ most_of subject system.now.setting.program }
+{
+    match subject {
+        Subject::Thread => system.thread_count(),
+        Subject::Currency => system.currency_count().saturating_sub(1),
+        Subject::Processor => system.processors(),
+        Subject::Total => 1,
+    }
+}
+
+/// Writes the line or the row of the subject with this number, if it exists.
+fn write_subject<W: Write>(
+    system: &mut System,
+    timekeeper: &Timekeeper,
+    ending: Ending,
+    layout: Layout,
+    subject: Subject,
+    number: u32,
+    writer: &mut Watched<W>,
+) -> Result<(), IoFault>
+    requires end { IsAtEnd system.old timekeeper.now }
+    requires there { IsBetween 1 (most_of subject system.old.setting.program) number }
+    requires values { ending.all_values ≡ facts.live_value (world_of system.old).state }
+    requires working { writer.old.failed ≡ false }
+    ensures same { system.new ≡ system.old }
+    ensures text { Writes W.contents writer.old writer.new result
+        (subject_text layout (moment_in system.old timekeeper.now) ending.time
+        (timed_turns system.old.setting.program) subject number) }
+{
+    let Some(told) = told_of(system, timekeeper, ending, subject, number) else {
         return Ok(());
     };
-    match form {
-        ReportForm::Lines => write_timed_thread_total(writer, thread, &row, shares),
-        ReportForm::Table | ReportForm::CurrencyTable => {
-            write_timed_thread_record(writer, thread, &row, shares)
-        }
-    }
-}
-
-/// The fields that the report adds to the thread's row.
-pub(crate) fn shares_of(
-    system: &mut System,
-    timekeeper: &Timekeeper,
-    thread: u32,
-    all_values: u128,
-) -> ThreadShares
-    requires end { IsAtEnd system.old timekeeper.now }
-    requires there { IsBetween 1 system.old.setting.program.limits.threads thread }
-    requires values { all_values ≡ facts.live_value (world_of system.old).state }
-    ensures same { system.new ≡ system.old }
-    ensures shares { result
-        ≡ shares_in (world_of system.old).state (timed_turns system.old.setting.program) thread }
-    ensures live { result.live_time < 2 ^ 57 }
-    ensures due { result.due < 2 ^ 121 }
-    ensures values { result.all_values ≡ all_values }
-{
-    let live_value = system.live_value(thread);
-    ThreadShares {
-        all_ticks: system.total().ticks,
-        due: timekeeper.dues.of(thread),
-        live_time: timekeeper.dues.shared_time,
-        live_value,
-        all_values,
-        ready: timekeeper.ready.of(thread),
-        mutexes: timekeeper.mutexes.of(thread),
-        replies: timekeeper.replies.of(thread),
-        refused_traps: timekeeper.refused_traps.of(thread),
-        lives: timekeeper.lives.of(thread),
-    }
-}
-
-/// Writes each processor's line.
-fn write_processors<W: Write>(
-    system: &System,
-    timekeeper: &Timekeeper,
-    end: u32,
-    writer: &mut Watched<W>,
-) -> Result<(), IoFault>
-    requires end { IsAtEnd system.now timekeeper.now }
-    requires working { writer.old.failed ≡ false }
-    ensures { Writes W.contents writer.old writer.new result
-        (flat_map (reports.timed_processor_total (moment_in system.now timekeeper.now) end
-        (actor_turns (timed_turns system.now.setting.program)))
-        (range_with_len 1 (world_of system.now).state.limits.processors)) }
-{
-    for place in 0..system.processors() {
-        write_processor(system, timekeeper, end, place + 1, writer)?;
-    }
-    Ok(())
-}
-
-/// Writes the processor's line.
-fn write_processor<W: Write>(
-    system: &System,
-    timekeeper: &Timekeeper,
-    end: u32,
-    processor: u32,
-    writer: &mut Watched<W>,
-) -> Result<(), IoFault>
-    requires end { IsAtEnd system.now timekeeper.now }
-    requires there { IsBetween 1 system.now.setting.program.limits.processors processor }
-    requires working { writer.old.failed ≡ false }
-    ensures { Writes W.contents writer.old writer.new result
-        (reports.timed_processor_total (moment_in system.now timekeeper.now) end
-        (actor_turns (timed_turns system.now.setting.program)) processor) }
-{
-    write_timed_processor_total(writer, processor_total(system, timekeeper, end, processor))
-}
-
-/// The fields of the processor in the report, up to this end.
-pub(crate) fn processor_total(
-    system: &System,
-    timekeeper: &Timekeeper,
-    end: u32,
-    processor: u32,
-) -> TimedProcessorTotal
-    requires end { IsAtEnd system.now timekeeper.now }
-    requires there { IsBetween 1 system.now.setting.program.limits.processors processor }
-    ensures { result ≡ processor_in (moment_in system.now timekeeper.now) end
-        (actor_turns (timed_turns system.now.setting.program)) processor }
-{
-    let counts = system.counts(processor);
-    TimedProcessorTotal {
-        processor,
-        quanta: counts.quanta,
-        idles: counts.idles,
-        ticks: counts.ticks,
-        unused: timekeeper.clocks.idle_until(end, processor),
-    }
-}
-
-/// Writes the totals of all actors.
-fn write_total<W: Write>(
-    system: &System,
-    timekeeper: &Timekeeper,
-    writer: &mut Watched<W>,
-) -> Result<(), IoFault>
-    requires end { IsAtEnd system.now timekeeper.now }
-    requires working { writer.old.failed ≡ false }
-    ensures { Writes W.contents writer.old writer.new result
-        (reports.timed_whole_total (moment_in system.now timekeeper.now)
-        (timed_turns system.now.setting.program)) }
-{
-    write_timed_whole_total(writer, whole_total(system, timekeeper))
-}
-
-/// The fields of all actors in the report.
-pub(crate) fn whole_total(system: &System, timekeeper: &Timekeeper) -> TimedWholeTotal
-    requires end { IsAtEnd system.now timekeeper.now }
-    ensures total { result
-        ≡ whole_in (moment_in system.now timekeeper.now) (timed_turns system.now.setting.program) }
-    ensures small { result.lives.total < 2 ^ 118 }
-{
-    let counts = system.total();
-    TimedWholeTotal {
-        turns: counts.turns,
-        quanta: counts.quanta,
-        ticks: counts.ticks,
-        refused: timekeeper.refused,
-        left: system.commands_left() as u64,
-        lives: past_lives(system, timekeeper),
-    }
-}
-
-/// The past lives of all threads, whatever numbers they had.
-fn past_lives(system: &System, timekeeper: &Timekeeper) -> PastLives
-    requires end { IsAtEnd system.now timekeeper.now }
-    ensures lives { result
-        ≡ reports.past_lives (world_of system.now).state (timed_turns system.now.setting.program) }
-    ensures small { result.total < 2 ^ 118 }
-{
-    let mut lives = PastLives {
-        count: 0,
-        total: 0,
-        longest: 0,
-    };
-    for place in 0..system.thread_count() {
-        lives = with_lives(lives, timekeeper.lives.of(place + 1));
-    }
-    lives
-}
-
-/// Past lives together with those of one number.
-fn with_lives(lives: PastLives, spans: Spans) -> PastLives
-    requires { (lives.count < 2 ^ 63) × (lives.total < 2 ^ 127) }
-    ensures added { result ≡ reports.with_lives lives spans }
-    ensures count { result.count < lives.count + 2 ^ 32 }
-    ensures total { result.total < lives.total + 2 ^ 64 }
-{
-    PastLives {
-        count: lives.count + u64::from(spans.count),
-        total: lives.total + u128::from(spans.total),
-        longest: lives.longest.max(spans.longest),
-    }
+    write_told(
+        writer,
+        layout,
+        subject,
+        number,
+        &told.name,
+        told.cells.as_slice(),
+    )
 }

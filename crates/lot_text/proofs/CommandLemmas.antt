@@ -1,5 +1,5 @@
 -- Lines of commands, by their tokens.
-use Rattle.lot_text.proofs.Common.{BadLine, Bool, Command, Err, InputRefusal, List, None, Ok, Option, Reading, Result, Slot, Some, Value, Verb, add_made, add_named, add_naming, ap, arith, checked, command_from, command_line, drop, false, false≢true, form, le-ltb, length, lt-ltb, map, name_at_end, name_in, nat_lt, numbered, refl, sym, true, values_from, ℕ, [], ◌>>=◌, ◌∙◌, ◌∷◌, ◌≡◌, ◌<◌, ◌≤◌}
+use Rattle.lot_text.proofs.Common.{BadLine, Bool, Command, Err, InputRefusal, List, None, Ok, Option, Reading, Result, Slot, Some, Value, Verb, add_made, add_named, add_naming, ap, arith, checked, command_from, command_line, drop, false, false≢true, form, le-ltb, length, map, name_at_end, name_in, nat_lt, numbered, refl, sym, true, values_from, ℕ, [], ◌>>=◌, ◌∙◌, ◌∷◌, ◌≡◌, ◌≤◌}
 use Rattle.std.specs.Prelude.{is_err}
 use Rattle.lot_machine.specs.Arguments.{NamedTicket}
 use Rattle.lot_machine.specs.Verbs.{command_given, values_given}
@@ -120,10 +120,6 @@ line-read r v tokens =
             ≡ (end >>= λ name. add_given r name (names values None) (command_from v (map (numbered 0) values)))
         rest (Err refusal) = refl
         rest (Ok name) = add-given r name values (command_from v (map (numbered 0) values)) ∙ ap (λ named. add_given r name named (command_from v (map (numbered 0) values))) (sym (names-first values))
-
--- a line with too few tokens
-pub refused-early : (r : Reading) (v : Verb) (tokens : List (List ℕ)) (refusal : InputRefusal) → length tokens < length (form v) → refused r v tokens refusal ≡ Err BadLine
-refused-early r v tokens refusal short = rw (lt-ltb (length tokens) (length (form v)) short) refl
 
 -- a line with enough
 pub refused-behind : (r : Reading) (v : Verb) (tokens rest : List (List ℕ)) (refusal : InputRefusal) → (rest ≡ drop (length (form v)) tokens) × (length (form v) ≤ length tokens)

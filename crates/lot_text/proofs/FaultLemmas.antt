@@ -1,6 +1,5 @@
 -- The result of a parsing function.
-use Rattle.lot_text.proofs.Common.{BadLine, Err, Fails, Gives, IfErr, InputFault, InputRefusal, IsErr, IsErrAnd, IsFaultOf, LineFault, List, MatchResult, Memory, Ok, ParseFault, Refused, Result, append_assoc, each, each_pair, false≢true, length, refl, ℕ, [], ◌++◌, ◌>>=◌, ◌∷◌, ◌≡◌, ◌≢◌}
-use Rattle.lot_text.specs.declared.fault.ParseFault.TheVariants as parse_fault
+use Rattle.lot_text.proofs.Common.{BadLine, Err, Fails, Gives, InputRefusal, IsErr, IsErrAnd, LineFault, List, MatchResult, Memory, Ok, Refused, Result, append_assoc, each, each_pair, false≢true, length, refl, ℕ, [], ◌++◌, ◌>>=◌, ◌∷◌, ◌≡◌, ◌≢◌}
 
 -- what fails first fails the whole
 pub Fails-then : {A B : Type 0} (fault : LineFault) (given : Result A InputRefusal) (next : A → Result B InputRefusal) → Fails fault given
@@ -86,9 +85,3 @@ pair-refused read tokens rest token partner refusal is first = rw (is, ← first
 pub more-read : {A : Type 0} (before after : List A) (x : A) (others : List A) (given : Result (List A) InputRefusal) → after ≡ before ++ x ∷ []
     → given ≡ Ok (before ++ x ∷ others) → given ≡ Ok (after ++ others)
 more-read before after x others given is read = rw (is, append_assoc before (x ∷ []) others) read
-
--- being out of memory is a fault of any input
-pub IfErr-memory : {A U : Type 0} (r : Result U ParseFault) (given : Result A InputFault) → IsErr r × IsErrAnd r (λ (e : ParseFault). e ≡ parse_fault.Memory)
-    → IfErr r (IsFaultOf given)
-IfErr-memory (Ok done) given failed = tt
-IfErr-memory (Err e) given failed = rw failed.1 tt

@@ -1,5 +1,5 @@
 -- The first of the lines, and those after it.
-use Rattle.lot_text.proofs.Common.{Bool, Err, Fails, InputRefusal, IsFaultOf, LineFault, List, Memory, None, Ok, Option, Reading, Refused, ap, arith, cond, drop, drop_min, false, fault_on, if◌then◌else◌, length, length-drop, length-take, lines_of, max, min, not, prefix_len, program_in, read_line, read_lines, refl, refused_on, suc, sym, take, take_rest, true, whole_program, with_first_byte, without_end, zero, ℕ, [], ◌+◌, ◌-◌, ◌<◌, ◌==◌, ◌>>=◌, ◌∙◌, ◌∷◌, ◌≡◌, ◌≤◌}
+use Rattle.lot_text.proofs.Common.{Bool, Err, Fails, InputRefusal, IsFaultOf, LineFault, List, Memory, None, Ok, Option, Reading, Refused, ap, arith, cond, drop, drop_min, false, fault_on, if◌then◌else◌, length, length-drop, length-take, lines_of, max, min, not, prefix_len, program_in, read_line, read_lines, refl, refused_on, suc, sym, take, take_rest, true, whole_program, with_first_byte, without_end, zero, ℕ, [], ◌+◌, ◌-◌, ◌<◌, ◌==◌, ◌>>=◌, ◌∙◌, ◌∷◌, ◌≡◌}
 
 -- how many bytes the first line has before its byte 10
 abbrev pub first_len : List ℕ → ℕ
@@ -30,14 +30,6 @@ without_end-first (b ∷ bs) = at (without_end-first bs) (b == 10) refl
         → without_end (take (suc (cond (not e) (1 + first_len bs) 0)) (b ∷ bs)) ≡ take (cond (not e) (1 + first_len bs) 0) (b ∷ bs)
     at next true is = rw is refl
     at next false is = let more : (n : ℕ) → 1 + n ≡ suc n = λ n. omega arith in rw (is, more (first_len bs), more (first_len (take (suc (first_len bs)) bs))) (ap (λ rest. b ∷ rest) next)
-
-pub first_len-le : (bs : List ℕ) → first_len bs ≤ length bs
-first_len-le [] = omega arith
-first_len-le (b ∷ bs) = at (first_len-le bs) (b == 10)
-  where
-    at : first_len bs ≤ length bs → (e : Bool) → cond (not e) (1 + first_len bs) 0 ≤ suc (length bs)
-    at next true = omega arith
-    at next false = omega (arith, next)
 
 -- how many bytes the first line has, with its end
 abbrev pub whole_len : List ℕ → ℕ

@@ -1,5 +1,5 @@
 -- States of reading stay within the bounds of an input.
-use Rattle.lot_text.proofs.Common.{All, All-append, All-push, All-same, Bool, Command, Err, IsBetween, IsBody, IsNonDecreasing, IsReading, IsTrue, List, NamedScript, None, Ok, OpenScript, Option, Reading, Some, TooLong, add_naming, after_header, ap, append-nil, arith, body_place, common_steps, false, header_line, le-leb, length, length-append, lt-leb, nat_lt, number_between, refl, rules, sym, true≢false, ℕ, [], ◌++◌, ◌+◌, ◌<◌, ◌∙◌, ◌∷◌, ◌≡◌, ◌≤◌}
+use Rattle.lot_text.proofs.Common.{All, All-append, All-push, All-same, Command, Err, IsBody, IsNonDecreasing, IsReading, IsTrue, List, None, Ok, OpenScript, Option, Reading, Some, TooLong, add_naming, after_header, ap, append-nil, arith, body_place, common_steps, false, header_line, le-leb, length, length-append, lt-leb, nat_lt, number_between, refl, sym, true≢false, ℕ, [], ◌++◌, ◌+◌, ◌<◌, ◌∷◌, ◌≡◌, ◌≤◌}
 use Rattle.lot_text.proofs.Common.{Gives, LineFault, Result, subst, word_in}
 use Rattle.lot_simulation.specs.Grammar.{body_words_of, header_words_of, later_line, line_outside}
 use Rattle.lot_simulation.specs.declared.input.HeaderWord.TheVariants as header
@@ -48,21 +48,6 @@ with_mutexes r mutexes read fits = record {
   times = read.times;
 }
 
--- one that opens a script
-pub with_open : (r : Reading) (script : OpenScript) → IsReading r → length r.scripts < 256 → IsReading (record r { place = body_place; unclosed = Some script })
-with_open r script read room = record {
-  sizes = read.sizes;
-  names = record {
-    port_count = read.names.port_count;
-    mutex_count = read.names.mutex_count;
-    ticket_name_count = read.names.ticket_name_count;
-    script_count = read.names.script_count;
-    open_script = λ _. room;
-  };
-  body = in_body r read;
-  times = read.times;
-}
-
 -- a line of an open script
 pub with_line : (r : Reading) (script : OpenScript) → IsReading r → length r.scripts < 256 → IsReading (record r { unclosed = Some script })
 with_line r script read room = record {
@@ -74,42 +59,6 @@ with_line r script read room = record {
     script_count = read.names.script_count;
     open_script = λ _. room;
   };
-  body = read.body;
-  times = read.times;
-}
-
--- limits are read
-pub with_limits : (r : Reading) (tickets currencies threads : ℕ) → IsReading r → IsBetween 1 65535 tickets → IsBetween 1 4096 currencies → IsBetween 1 4096 threads
-    → IsReading (record r { tickets = tickets; currencies = currencies; threads = threads })
-with_limits r tickets currencies threads read first second third = record {
-  sizes = record {
-    processor_count = read.sizes.processor_count;
-    quantum_length = read.sizes.quantum_length;
-    turn_count = read.sizes.turn_count;
-    ticket_count = first;
-    currency_count = second;
-    thread_count = third;
-    seeding = read.sizes.seeding;
-  };
-  names = read.names;
-  body = read.body;
-  times = read.times;
-}
-
--- a quantum or turns are read
-pub with_settings : (r : Reading) (quantum turns : ℕ) → IsReading r → IsBetween 1 1000 quantum → turns ≤ 10000
-    → IsReading (record r { quantum = quantum; turns = turns })
-with_settings r quantum turns read first second = record {
-  sizes = record {
-    processor_count = read.sizes.processor_count;
-    quantum_length = first;
-    turn_count = second;
-    ticket_count = read.sizes.ticket_count;
-    currency_count = read.sizes.currency_count;
-    thread_count = read.sizes.thread_count;
-    seeding = read.sizes.seeding;
-  };
-  names = read.names;
   body = read.body;
   times = read.times;
 }
@@ -158,26 +107,6 @@ pub limits-read : (before r : Reading) (first second third : List ℕ) (tickets 
     → header_line r header.Limits (first ∷ second ∷ third ∷ []) ≡ Ok (record before { tickets = tickets; currencies = currencies; threads = threads })
 limits-read before r first second third tickets currencies threads same is_tickets is_currencies is_threads = rw (← same, ← is_tickets, ← is_currencies, ← is_threads) refl
 
--- a command is added without a time
-pub with_command : (r : Reading) (commands : List Command) (command : Command) → IsReading r → length r.commands < 100000 → r.is_timed ≡ false
-    → commands ≡ r.commands ++ command ∷ [] → IsReading (record r { place = body_place; commands = commands })
-with_command r commands command read room untimed added = record {
-  sizes = read.sizes;
-  names = read.names;
-  body = record {
-    command_count = omega (arith, room, ap length added, length-append r.commands (command ∷ []));
-    actors = read.body.actors;
-    schedule_length = read.body.schedule_length;
-    unscheduled = λ none. absurd (past-header none);
-  };
-  times = record {
-    time_count = λ timed. absurd (true≢false (sym timed ∙ untimed));
-    running = read.times.running;
-    rising = read.times.rising;
-    past = read.times.past;
-  };
-}
-
 -- so the command is read
 pub naming-read : (before r : Reading) (name : Option ℕ) (command : Command) → before ≡ r → before.is_timed ≡ false → length before.commands < 100000
     → after_header (add_naming r name command) ≡ Ok (record before { place = body_place; commands = before.commands ++ command ∷ [] })
@@ -217,49 +146,6 @@ with_ticket_names r names read fits = record {
   };
   body = read.body;
   times = read.times;
-}
-
--- seeds and scripts are taken out
-pub without_seeds : (r : Reading) (scripts : List NamedScript) → IsReading r → length scripts ≤ length r.scripts
-    → IsReading (record r { seeds = None; scripts = scripts })
-without_seeds r scripts read fewer = record {
-  sizes = record {
-    processor_count = read.sizes.processor_count;
-    quantum_length = read.sizes.quantum_length;
-    turn_count = read.sizes.turn_count;
-    ticket_count = read.sizes.ticket_count;
-    currency_count = read.sizes.currency_count;
-    thread_count = read.sizes.thread_count;
-    seeding = search rules;
-  };
-  names = record {
-    port_count = read.names.port_count;
-    mutex_count = read.names.mutex_count;
-    ticket_name_count = read.names.ticket_name_count;
-    script_count = omega (arith, read.names.script_count, fewer);
-    open_script = λ some. omega (arith, read.names.open_script some, fewer);
-  };
-  body = read.body;
-  times = read.times;
-}
-
--- the tables of the program are
-pub without_tables : (r : Reading) → IsReading r → IsReading (record r { commands = []; schedule = []; times = []; names = [] })
-without_tables r read = record {
-  sizes = read.sizes;
-  names = read.names;
-  body = record {
-    command_count = omega arith;
-    actors = search rules;
-    schedule_length = omega arith;
-    unscheduled = λ _. refl;
-  };
-  times = record {
-    time_count = λ _. refl;
-    running = read.times.running;
-    rising = search rules;
-    past = search rules;
-  };
 }
 
 -- ---- a line outside scripts

@@ -1,6 +1,6 @@
 -- The arguments on a line.
 use Rattle.std.specs.Prelude.{ℕ, ⊤, Option, Some, unwrap_or, Result, Ok, Err, List, [], ◌∷◌}
-use Rattle.lot_machine.specs.declared.verb.Slot.{Slot}
+use Rattle.lot_machine.specs.declared.arguments.Slot.{Slot}
 use Rattle.lot_machine.specs.Arguments.{Value, NamedTicket}
 use Rattle.lot_machine.specs.Bounds.{IsBetween}
 use Rattle.lot_simulation.specs.declared.forms.Argument.{Argument}

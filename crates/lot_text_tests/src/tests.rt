@@ -171,11 +171,6 @@ const FIRST_RUN_SAYS: &Said<'static> = &Said {
     ..NOTHING
 };
 
-#[test]
-fn reads_the_first_run(rt: HostRuntime) {
-    check_said(&rt, rt.alloc(), FIRST_RUN, FIRST_RUN_SAYS);
-}
-
 /// Compares the seeds of an input with three of its own, read with this seed in their place.
 fn check_seeds(rt: &impl Abort, alloc: Global, given: Option<Seed>, wanted: &[u32]) {
     let text = "lottery 3\nprocessors 3\nfor 1\nseed 7 8 9\n";
@@ -214,11 +209,6 @@ const HEADERS_SAY: &Said<'static> = &Said {
     scripts: &[&[]],
     ..NOTHING
 };
-
-#[test]
-fn reads_headers(rt: HostRuntime) {
-    check_said(&rt, rt.alloc(), HEADERS, HEADERS_SAY);
-}
 
 /// Every kind of line of inputs whose turns follow a schedule. Two names have 16 bytes, the longest.
 const WHOLE_GRAMMAR: &str =
@@ -276,11 +266,6 @@ const WHOLE_GRAMMAR_SAYS: &Said<'static> = &Said {
     ..NOTHING
 };
 
-#[test]
-fn reads_the_whole_grammar(rt: HostRuntime) {
-    check_said(&rt, rt.alloc(), WHOLE_GRAMMAR, WHOLE_GRAMMAR_SAYS);
-}
-
 /// The parts that only timed inputs have. One name has 16 bytes, the longest, and isn't good.
 const TIMED: &str =
     "lottery 3\nprocessors 2\nturns 5\nfor 4294967295\nreuse\nport p\nscript s\nloop 2 serve p yield\n\
@@ -325,17 +310,10 @@ const TIMED_SAYS: &Said<'static> = &Said {
     names: &[None; 10],
     options: Options {
         reuse: true,
-        without_compensation: false,
-        without_lending: false,
-        strict: false,
+        ..Options::NONE
     },
     ..NOTHING
 };
-
-#[test]
-fn reads_turns_in_the_order_of_time(rt: HostRuntime) {
-    check_said(&rt, rt.alloc(), TIMED, TIMED_SAYS);
-}
 
 /// One header of a timed input in three orders.
 const HEADER_ORDERS: &[&str] = &[
@@ -369,6 +347,7 @@ const HEADER_ORDERS_SAY: &Said<'static> = &Said {
         without_compensation: true,
         without_lending: true,
         strict: true,
+        ..Options::NONE
     },
     ..NOTHING
 };
@@ -426,9 +405,21 @@ const NAMED_SAYS: &Said<'static> = &Said {
     ..NOTHING
 };
 
+/// Inputs, and their programs: a first run, headers, the whole grammar of inputs with a schedule, turns in the order of
+/// time, and names of tickets.
+const READ: &[(&str, &Said<'static>)] = &[
+    (FIRST_RUN, FIRST_RUN_SAYS),
+    (HEADERS, HEADERS_SAY),
+    (WHOLE_GRAMMAR, WHOLE_GRAMMAR_SAYS),
+    (TIMED, TIMED_SAYS),
+    (NAMED, NAMED_SAYS),
+];
+
 #[test]
-fn reads_names_of_tickets(rt: HostRuntime) {
-    check_said(&rt, rt.alloc(), NAMED, NAMED_SAYS);
+fn reads_inputs(rt: HostRuntime) {
+    for (text, said) in READ {
+        check_said(&rt, rt.alloc(), text, said);
+    }
 }
 
 /// Reads the text, unless out of memory.
@@ -498,11 +489,6 @@ const FIRST_LINES: &[&str] = &[
     "1 BadLine: \t|lottery 1\r",
 ];
 
-#[test]
-fn refuses_first_lines(rt: HostRuntime) {
-    check_table(&rt, rt.alloc(), "", FIRST_LINES);
-}
-
 const REFUSED_HEADERS: &[&str] = &[
     "2 BadHeader: lottery 1",
     "3 BadHeader: quantum 5\nquantum x y|seed 1\nquantum 5|schedule 0\nseed 1|quantum 10\nprocessors 2",
@@ -512,11 +498,6 @@ const REFUSED_HEADERS: &[&str] = &[
     "2 BadNumber: processors 65|turns 10001|quantum 1001|quantum 0|seed 0|seed 2147483647|limits 65536 1 1\
     |limits 1 4097 1|limits 1 1 0",
 ];
-
-#[test]
-fn refuses_headers(rt: HostRuntime) {
-    check_table(&rt, rt.alloc(), "lottery 1\n", REFUSED_HEADERS);
-}
 
 const REFUSED_BODIES: &[&str] = &[
     "2 BadLine: lstkt 1|mutex M|compute 5|mktkt 1|mktkt 1 base #|schedule|script S|runs 0 1|for 5|at 5|settkt 1 5\
@@ -532,11 +513,6 @@ const REFUSED_BODIES: &[&str] = &[
     "2 OpenScript: script s\ncompute 5\n",
 ];
 
-#[test]
-fn refuses_bodies(rt: HostRuntime) {
-    check_table(&rt, rt.alloc(), "lottery 1\n", REFUSED_BODIES);
-}
-
 /// The call and its reply, up to a line of the server's script.
 const CALL: &str = "lottery 1\nquantum 10\nport p\nscript srv\n";
 
@@ -550,11 +526,6 @@ const REFUSED_SCRIPTS: &[&str] = &[
     "13 TooDeep: loop 1\nloop 1\nloop 1\nloop 1\nloop 1\nloop 1\nloop 1\nloop 1\nloop 1",
 ];
 
-#[test]
-fn refuses_scripts(rt: HostRuntime) {
-    check_table(&rt, rt.alloc(), CALL, REFUSED_SCRIPTS);
-}
-
 const REFUSED_RUNS: &[&str] = &[
     "2 BadLine: runs 0|runs|settkt 1 5|settkt|settkt 007 5|rmthr a|rmthr abcdefghijklmnopq|kill a\
     |kill abcdefghijklmnopq",
@@ -562,11 +533,6 @@ const REFUSED_RUNS: &[&str] = &[
     "2 BadActor: runs 2 1",
     "2 TooLong: runs 0 1000000 0 1",
 ];
-
-#[test]
-fn refuses_runs(rt: HostRuntime) {
-    check_table(&rt, rt.alloc(), "lottery 2\n", REFUSED_RUNS);
-}
 
 /// Header lines of a timed input.
 const REFUSED_DURATIONS: &[&str] = &[
@@ -595,22 +561,6 @@ const REFUSED_PHRASES: &[&str] = &[
     "5 TooDeep: loop 1 loop 1 loop 1 loop 1 loop 1 loop 1 loop 1 loop 1 loop 1",
 ];
 
-#[test]
-fn refuses_phrases(rt: HostRuntime) {
-    let opened = "lottery 3\nfor 5\nmutex m\nscript s\n";
-    check_table(&rt, rt.alloc(), opened, REFUSED_PHRASES);
-}
-
-#[test]
-fn refuses_durations(rt: HostRuntime) {
-    check_table(&rt, rt.alloc(), "lottery 3\n", REFUSED_DURATIONS);
-}
-
-#[test]
-fn refuses_times(rt: HostRuntime) {
-    check_table(&rt, rt.alloc(), "lottery 3\nfor 5\n", REFUSED_TIMES);
-}
-
 /// Lines after one that names a ticket `gift`.
 const REFUSED_NAMES: &[&str] = &[
     "4 UnknownName: rmtkt gitf|unfund abcdefghijklmnopq|settkt wage 5\nmktkt 5 base as wage|fund a gift",
@@ -626,24 +576,33 @@ const NAMES_OF_OTHERS: &[&str] = &[
     "3 BadNumber: mkcur gift\nrmtkt gift",
 ];
 
-#[test]
-fn refuses_names_of_tickets(rt: HostRuntime) {
-    let alloc = rt.alloc();
-    let named = "lottery 3\nfor 5\nmktkt 5 base as gift\n";
-    check_table(&rt, alloc, named, REFUSED_NAMES);
-    check_table(&rt, alloc, "lottery 1\n", NAMES_OF_OTHERS);
-    check_table(&rt, alloc, "lottery 2\n", NAMES_OF_OTHERS);
-}
-
 const REFUSED_STRICT: &[&str] = &[
     "2 BadLine: lottery 2\nstrict",
     "3 BadLine: lottery 3\nfor 5\nstrict 1",
     "4 BadHeader: lottery 3\nstrict\nfor 5\nstrict|lottery 3\nfor 5\nlstkt\nstrict",
 ];
 
+/// The beginnings of inputs, and how the program refuses what follows.
+const REFUSED: &[(&str, &[&str])] = &[
+    ("", FIRST_LINES),
+    ("lottery 1\n", REFUSED_HEADERS),
+    ("lottery 1\n", REFUSED_BODIES),
+    (CALL, REFUSED_SCRIPTS),
+    ("lottery 2\n", REFUSED_RUNS),
+    ("lottery 3\n", REFUSED_DURATIONS),
+    ("lottery 3\nfor 5\n", REFUSED_TIMES),
+    ("lottery 3\nfor 5\nmutex m\nscript s\n", REFUSED_PHRASES),
+    ("lottery 3\nfor 5\nmktkt 5 base as gift\n", REFUSED_NAMES),
+    ("lottery 1\n", NAMES_OF_OTHERS),
+    ("lottery 2\n", NAMES_OF_OTHERS),
+    ("", REFUSED_STRICT),
+];
+
 #[test]
-fn refuses_strict(rt: HostRuntime) {
-    check_table(&rt, rt.alloc(), "", REFUSED_STRICT);
+fn refuses_inputs(rt: HostRuntime) {
+    for (beginning, table) in REFUSED {
+        check_table(&rt, rt.alloc(), beginning, table);
+    }
 }
 
 /// A first line, and then a line of this many bytes.

@@ -66,7 +66,7 @@ const SHARES: &str = "tick,a\n0,0.0\n1,100.0\n2,100.0\n3,100.0\n4,100.0\n";
 const DRAW_SHARES: &str = "tick,a\n0,100.0\n1,100.0\n2,100.0\n3,100.0\n4,0.0\n";
 
 /// Words, and the expected output.
-static ROWS: [(&[&str], &str); 21] = [
+const ROWS: &[(&[&str], &str)] = &[
     (&["lot_sim", "play", "x.lot"], PLAYED),
     (&["lot_sim", "play", "--", "x.lot"], PLAYED),
     (&["lot_sim", "explain", "x.lot"], EXPLAINED),
@@ -142,20 +142,11 @@ fn check_written<H: Abort + Threads + Wait + Sync>(
     check_same_at(rt, &words, &found, &(0, true, false));
 }
 
-/// Calls the program as each row says.
-fn check_rows_of_file<H: Abort + Threads + Wait + Sync>(
-    rt: &H,
-    alloc: Global,
-    rows: &[(&[&str], &str)],
-) {
-    for (words, expected) in rows {
-        check_written(rt, alloc, words, expected);
-    }
-}
-
 #[test]
 fn named_inputs(rt: HostRuntime) {
-    check_rows_of_file(&rt, rt.alloc(), &ROWS);
+    for (words, expected) in ROWS {
+        check_written(&rt, rt.alloc(), words, expected);
+    }
 }
 
 /// The words with a title before the file or after it.
@@ -230,7 +221,7 @@ fn check_unread_files<H: Abort + Threads + Wait + Sync>(rt: &H, alloc: Global, w
     }
 }
 
-pub(crate) const WORDS: &[&str] = &["play", "report", "explain", "run", "shares", "chart"];
+const WORDS: &[&str] = &["play", "report", "explain", "run", "shares", "chart"];
 
 #[test]
 fn unread_files(rt: HostRuntime) {

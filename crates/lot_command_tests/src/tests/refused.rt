@@ -1,10 +1,9 @@
 //! The faults that the program reports of a refused input.
 
-use super::files::WORDS;
 use super::inputs::on_standard;
 use super::same::{check_same, check_same_at};
-use super::told::check_told;
-use super::{FailingCall, check_play, ended_on, joined};
+use super::told::{PLAY, Told, check_told};
+use super::{FailingCall, ended_on, joined};
 use lot_command::status;
 use std::alloc::Global;
 use std::io::ErrorKind;
@@ -13,20 +12,24 @@ use std::sync::Wait;
 use std::thread::Threads;
 
 /// An unknown name, misspelt words, a wrong number of words, and a processor above the last.
-const OF_FIRST: (&str, &str) = (
-    "lottery 1\nport disk\nscript s\ncall disc\ncomptue 5\nendscript\nmktk 5 base\nfund 1 a b\nschedule 0 2\n",
-    "line 4: 'disc' is no port of an earlier line; did you mean 'disk'?
+const OF_FIRST: Told<'static> = (PLAY, FIRST, 1, FIRST_TOLD);
+
+const FIRST: &str =
+    "lottery 1\nport disk\nscript s\ncall disc\ncomptue 5\nendscript\nmktk 5 base\nfund 1 a b\nschedule 0 2\n";
+
+const FIRST_TOLD: &str = "line 4: 'disc' is no port of an earlier line; did you mean 'disk'?
 line 5: 'comptue' is no word of a script; did you mean 'compute'?
 line 7: 'mktk' is no body line; did you mean 'mktkt'?
 line 8: this line is written 'fund TICKET TARGET', and here are 4 words
 line 9: '2': the last processor is 1, and 0 is the console
-",
-);
+";
 
 /// Comments and empty lines count as lines, and a line may begin with spaces.
-const OF_SECOND: (&str, &str) = (
+const OF_SECOND: Told<'static> = (
+    PLAY,
     "lottery 2\nmkcur alice\nmktkt 05 base\n# a comment\n  fundx 10 base a_name_of_17_bytes s\n\nruns 0 6 1\n\
     runs 0 0\n",
+    1,
     "line 3: '05' is no number from 1 to 4294967295: a number has digits alone, no sign, no fraction and no 0 before \
      others
 line 5: 'a_name_of_17_bytes' has 18 bytes, and a name at most 16
@@ -36,9 +39,11 @@ line 8: '0' is no number from 1 to 1000000
 );
 
 /// Several words on a line of a script, and a time that falls.
-const OF_THIRD: (&str, &str) = (
+const OF_THIRD: Told<'static> = (
+    EACH_REQUEST,
     "lottery 3\nfor 50\nmutex m\nscript s\nyield lock n compute 5\ncompute 0\nendscript\nat 9\nfundx 1 base a\n\
     at 3\nsettkt 1\n",
+    1,
     "line 5: 'n' is no mutex of an earlier line
 line 6: '0' is no number from 1 to 4294967295
 line 9: this line is written 'fundx AMOUNT CURRENCY NAME SCRIPT [as NAME]', and here are 4 words
@@ -48,39 +53,57 @@ line 11: this line is written 'settkt TICKET AMOUNT', and here are 2 words
 );
 
 /// Without the line that opens the script each of its lines would be refused.
-const WITHOUT_SCRIPT: (&str, &str) = (
+const WITHOUT_SCRIPT: Told<'static> = (
+    PLAY,
     "lottery 1\nmktk 5 base\nscript S\ncomptue 5\nendscript\nmktk 5 base\n",
+    1,
     "line 2: 'mktk' is no body line; did you mean 'mktkt'?
 line 3: 'S' is no name: a letter a to z, and then letters a to z, digits, '_' or '-'
 ",
 );
 
 /// The last line has a fault and no line feed.
-const AT_THE_END: (&str, &str) = ("lottery 1\nmktk 5 base\nmkcur", AT_THE_END_TOLD);
+const AT_THE_END: Told<'static> = (PLAY, ENDS_EARLY, 1, AT_THE_END_TOLD);
+
+const ENDS_EARLY: &str = "lottery 1\nmktk 5 base\nmkcur";
 
 const AT_THE_END_TOLD: &str = "line 2: 'mktk' is no body line; did you mean 'mktkt'?
 line 3: this line is written 'mkcur NAME', and here is 1 word
 ";
 
 /// The missing end of the script shows only at the end.
-const UNCLOSED: (&str, &str) = (
+const UNCLOSED: Told<'static> = (
+    PLAY,
     "lottery 1
 script s
 comptue 5",
+    1,
     "line 3: 'comptue' is no word of a script; did you mean 'compute'?
 line 2: this script isn't closed: 'endscript' closes it
 ",
 );
 
 /// Without its second line the input ends with the header.
-const WITHOUT_DURATION: (&str, &str) = (
+const WITHOUT_DURATION: Told<'static> = (
+    PLAY,
     "lottery 3\nmktk\n",
+    1,
     "line 2: 'mktk' is no body line; did you mean 'mktkt'?
 line 2: the header doesn't say how long the input runs: 'for TICKS' comes before the first body line
 ",
 );
 
-const ROWS: &[(&str, &str)] = &[
+/// Each request that reads an input.
+const EACH_REQUEST: &[&[&str]] = &[
+    &["lot_sim", "play"],
+    &["lot_sim", "report"],
+    &["lot_sim", "explain"],
+    &["lot_sim", "run"],
+    &["lot_sim", "shares"],
+    &["lot_sim", "chart"],
+];
+
+pub(crate) const FAULTS: &[Told<'static>] = &[
     OF_FIRST,
     OF_SECOND,
     OF_THIRD,
@@ -90,28 +113,8 @@ const ROWS: &[(&str, &str)] = &[
     WITHOUT_DURATION,
 ];
 
-#[test]
-fn faults(rt: HostRuntime) {
-    for (input, expected) in ROWS {
-        check_told(&rt, rt.alloc(), "play", input, 1, expected);
-    }
-}
-
-#[test]
-fn faults_of_each_request(rt: HostRuntime) {
-    let (input, expected) = OF_THIRD;
-    for word in WORDS {
-        check_told(&rt, rt.alloc(), word, input, 1, expected);
-    }
-}
-
-// The output has only the first fault.
-#[test]
-fn one_refused_line(rt: HostRuntime) {
-    let (input, _) = OF_FIRST;
-    let output = "refused line 4 53 UnknownName\n";
-    check_play(&rt, rt.alloc(), input, 1, output);
-}
+/// The output has only the first fault.
+pub(crate) const FIRST_FAULTS: &[(&str, &str)] = &[(FIRST, "refused line 4 53 UnknownName\n")];
 
 /// An input with ten faults.
 const TEN: &str =
@@ -148,7 +151,7 @@ fn ten_faults_and_more(rt: HostRuntime) {
 fn check_ten<H: Abort + Threads + Wait + Sync>(rt: &H, alloc: Global, last: &str, closing: &str) {
     let input = joined(rt, alloc, TEN, last);
     let expected = joined(rt, alloc, TEN_TOLD, closing);
-    check_told(rt, alloc, "play", input.as_str(), 1, expected.as_str());
+    check_told(rt, alloc, (PLAY, input.as_str(), 1, expected.as_str()));
 }
 
 /// Plays the input with an output for diagnostics whose call of this number fails.
@@ -189,8 +192,7 @@ fn check_told_before<H: Abort + Threads + Wait + Sync>(
     fails_at: u32,
     told: &str,
 ) {
-    let (input, _) = AT_THE_END;
-    let errors = told_before(rt, alloc, input, fails_at);
+    let errors = told_before(rt, alloc, ENDS_EARLY, fails_at);
     let is_told = errors.written.as_slice() == told.as_bytes();
     let wanted = (fails_at.min(2), true);
     check_same_at(rt, &fails_at, &(errors.calls, is_told), &wanted);
@@ -214,10 +216,9 @@ fn are_first(lines: &str, others: &str) -> bool {
 // If an allocation fails, the program says so and fails, or it reports the faults for which it has memory.
 #[test]
 fn tells_or_lacks_memory(rt: HostRuntime) {
-    let (input, expected) = OF_FIRST;
-    let ended = ended_on(&rt, rt.alloc(), &["lot_sim", "play"], input);
+    let ended = ended_on(&rt, rt.alloc(), &["lot_sim", "play"], FIRST);
     let told = ended.told();
-    let is_refused = ended.code == 1 && are_first(told, expected);
+    let is_refused = ended.code == 1 && are_first(told, FIRST_TOLD);
     let is_failed = ended.code == 3 && told == "out of memory\n";
     assert!(rt; is_refused || is_failed, "{told}");
 }

@@ -1,7 +1,7 @@
 //! Free runs.
 
 use super::same::{check_same, check_same_at};
-use super::{Row, check_rows, ended_on, joined};
+use super::{Row, ended_on, joined};
 use lot_command::InputRunFault;
 use lot_io::IoFault;
 use lot_processors::FreeRunFault;
@@ -11,7 +11,7 @@ use std::sync::Wait;
 use std::thread::Threads;
 
 /// Inputs, and the output of their runs in any order of turns.
-static RUNS: [Row; 5] = [
+pub(crate) const RUNS: &[Row] = &[
     (
         &["lot_sim", "run"],
         "lottery 1\nturns 3\n",
@@ -56,11 +56,6 @@ runs 1 3
 ",
     ),
 ];
-
-#[test]
-fn runs(rt: HostRuntime) {
-    check_rows(&rt, rt.alloc(), &RUNS);
-}
 
 /// The output of playing or running the input, which succeeds.
 fn written<H: Abort + Threads + Wait + Sync>(

@@ -1,8 +1,6 @@
 //! Tables and pictures of threads' ticks, and explained lotteries.
 use super::same::check_same_at;
-use super::{
-    Row, check_output_of, check_refused_words, check_rows, check_words, check_words_on, ended_on,
-};
+use super::{Row, ended_on};
 use std::alloc::Global;
 use std::process::Abort;
 use std::sync::Wait;
@@ -23,18 +21,13 @@ const TICKS: &str = "tick,a,b\n0,0,0\n1,1,0\n2,2,0\n3,3,0\n4,4,0\n";
 /// The refusal of a header with an unknown format.
 const BAD_HEADER: &str = "refused line 1 50 BadHeader\n";
 
-static TABLES: [Row; 5] = [
+pub(crate) const TABLES: &[Row] = &[
     (&["lot_sim", "shares"], INPUT, 0, TICKS),
     (&["lot_sim", "shares"], TIMED, 0, TICKS),
     (&["lot_sim", "shares"], "lottery 1\n", 0, "tick\n0\n"),
     (&["lot_sim", "shares"], "lottery 9\n", 1, BAD_HEADER),
     (&["lot_sim", "chart"], "lottery 9\n", 1, BAD_HEADER),
 ];
-
-#[test]
-fn tables(rt: HostRuntime) {
-    check_rows(&rt, rt.alloc(), &TABLES);
-}
 
 /// The report of `INPUT`.
 const REPORT: &str = "report
@@ -143,7 +136,7 @@ const BY_CURRENCY: &[&str] = &["lot_sim", "report", "--by=currency", "--csv"];
 
 /// Words, inputs and tables. Without threads a table has only its first row. An input of another format has no table of
 /// currencies.
-static REPORT_TABLES: [Row; 10] = [
+pub(crate) const REPORT_TABLES: &[Row] = &[
     (TABLE_WORDS, INPUT, 0, SHORT_TABLE),
     (TABLE_WORDS, TIMED, 0, TABLE),
     (TABLE_WORDS, "lottery 1\n", 0, "thread,name,quanta,ticks\n"),
@@ -161,13 +154,8 @@ static REPORT_TABLES: [Row; 10] = [
     (BY_CURRENCY, INPUT, 0, SHORT_TABLE),
 ];
 
-#[test]
-fn report_tables(rt: HostRuntime) {
-    check_rows(&rt, rt.alloc(), &REPORT_TABLES);
-}
-
 /// `play`, `report` and `shares` write the same over several plays.
-static SEVERAL_PLAYS: [Row; 6] = [
+pub(crate) const SEVERAL_PLAYS: &[Row] = &[
     (&["lot_sim", "play", "--seeds", "1..2"], TIMED, 0, PLAYS),
     (&["lot_sim", "report", "--seeds", "1..2"], TIMED, 0, PLAYS),
     (&["lot_sim", "shares", "--seeds", "1..2"], TIMED, 0, PLAYS),
@@ -192,19 +180,13 @@ static SEVERAL_PLAYS: [Row; 6] = [
 ];
 
 /// `explain` and `chart` have no figures, and several plays have no time.
-const NOT_OF_PLAYS: &[&[&str]] = &[
+pub(crate) const NOT_OF_PLAYS: &[&[&str]] = &[
     &["lot_sim", "explain", "--seeds", "1..2", "-"],
     &["lot_sim", "chart", "--seeds", "1..2", "-"],
     &["lot_sim", "play", "--seeds", "2..1", "-"],
     &["lot_sim", "shares", "--seeds", "1..2", "--quanta"],
     &["lot_sim", "shares", "--seeds", "1..2", "--from=1"],
 ];
-
-#[test]
-fn several_plays(rt: HostRuntime) {
-    check_rows(&rt, rt.alloc(), &SEVERAL_PLAYS);
-    check_refused_words(&rt, rt.alloc(), NOT_OF_PLAYS);
-}
 
 /// Threads `a` and `b` are worth 1 each, and `a` exits in its first tick.
 const DIFFERENT: &str =
@@ -285,22 +267,15 @@ fn check_end<H: Abort + Threads + Wait + Sync>(
 }
 
 /// Seeds in the wrong form.
-const NO_SEEDS: &[&[&str]] = &[
+pub(crate) const NO_SEEDS: &[&[&str]] = &[
     &["lot_sim", "report", "--seeds", "1"],
     &["lot_sim", "report", "--seeds", "2..1"],
     &["lot_sim", "report", "--seeds", "0..2"],
     &["lot_sim", "report", "--seeds", "1..2147483647"],
 ];
 
-/// The report alone, and seeds in the wrong form.
-#[test]
-fn reports(rt: HostRuntime) {
-    check_words_on(&rt, rt.alloc(), "report", INPUT, 0, REPORT);
-    check_refused_words(&rt, rt.alloc(), NO_SEEDS);
-}
-
 /// Options that these subcommands don't have, or that have a wrong value.
-const REFUSED_OPTIONS: &[&[&str]] = &[
+pub(crate) const REFUSED_OPTIONS: &[&[&str]] = &[
     &["lot_sim", "shares", "x", "y"],
     &["lot_sim", "shares", "--title", "x"],
     &["lot_sim", "chart", "--title"],
@@ -319,20 +294,27 @@ const REFUSED_OPTIONS: &[&[&str]] = &[
     &["lot_sim", "chart", "--from", "3", "--to", "2"],
     &["lot_sim", "chart", "--from", "x", "--to", "9"],
     &["lot_sim", "chart", "--from", "0", "--to", "0"],
+    &["lot_sim", "explain", "x", "y"],
+    &["lot_sim", "play", "--funding"],
 ];
 
-#[test]
-fn options(rt: HostRuntime) {
-    check_refused_words(&rt, rt.alloc(), REFUSED_OPTIONS);
-}
-
-/// The columns count draws.
-#[test]
-fn draws(rt: HostRuntime) {
-    let words = ["lot_sim", "shares", "--quanta"];
-    let table = "tick,a,b\n0,1,0\n1,1,0\n2,2,0\n3,2,0\n4,2,0\n";
-    check_output_of(&rt, rt.alloc(), &words, INPUT, 0, table);
-}
+/// The report alone, a table whose columns count draws, and a faulty line of seeds, which the program refuses even with
+/// another seed given.
+pub(crate) const OTHER_CALLS: &[Row] = &[
+    (&["lot_sim", "report"], INPUT, 0, REPORT),
+    (
+        &["lot_sim", "shares", "--quanta"],
+        INPUT,
+        0,
+        "tick,a,b\n0,1,0\n1,1,0\n2,2,0\n3,2,0\n4,2,0\n",
+    ),
+    (
+        &["lot_sim", "play", "--seed", "5"],
+        "lottery 1\nseed 0\n",
+        1,
+        "refused line 2 52 BadNumber\n",
+    ),
+];
 
 /// Words, and parts of the picture that the program draws. Between ticks 1 and 4 thread a runs for three ticks. It is
 /// the only thread, so it has all ticks in each window that isn't empty.
@@ -383,13 +365,6 @@ fn check_picture<H: Abort + Threads + Wait + Sync>(
     check_parts(rt, picture, parts);
 }
 
-#[test]
-fn pictures(rt: HostRuntime) {
-    for (words, parts) in PICTURES {
-        check_picture(&rt, rt.alloc(), words, INPUT, parts);
-    }
-}
-
 /// Parts of the picture of `CURRENCIES` by currency. Both lines have all ticks and are due all of them, and the second
 /// name is below the first.
 const CURRENCY_PARTS: &[&str] = &[
@@ -402,7 +377,10 @@ const CURRENCY_PARTS: &[&str] = &[
 ];
 
 #[test]
-fn pictures_by_currency(rt: HostRuntime) {
+fn pictures(rt: HostRuntime) {
+    for (words, parts) in PICTURES {
+        check_picture(&rt, rt.alloc(), words, INPUT, parts);
+    }
     let words = ["lot_sim", "chart", "--by", "currency"];
     check_picture(&rt, rt.alloc(), &words, CURRENCIES, CURRENCY_PARTS);
 }
@@ -477,17 +455,6 @@ processor 1 quanta 2 idle 0 ticks 4
 total turns 8 quanta 2 ticks 4
 ";
 
-static EXPLAINED_ROWS: [Row; 2] = [
-    (&["lot_sim", "explain"], INPUT, 0, EXPLAINED),
-    (&["lot_sim", "explain"], "lottery 9\n", 1, BAD_HEADER),
-];
-
-#[test]
-fn explained(rt: HostRuntime) {
-    check_rows(&rt, rt.alloc(), &EXPLAINED_ROWS);
-    check_words(&rt, rt.alloc(), &["lot_sim", "explain", "x", "y"], 2, false);
-}
-
 /// Two threads share a currency's value as 3 to 1. Its third ticket funds nothing.
 const FUNDED: &str =
     "lottery 3\nquantum 9\nfor 4\nseed 2\nmutex m\nscript hold\nlock m\ncompute 1\nyield\nendscript\nmkcur g\n\
@@ -536,7 +503,9 @@ total turns 12 quanta 3 ticks 4 refused 0 left 0
 ";
 
 /// With `--funding` the output has the funding at each draw. It changes nothing in another format.
-static FUNDING_ROWS: [Row; 2] = [
+pub(crate) const EXPLAINED_CALLS: &[Row] = &[
+    (&["lot_sim", "explain"], INPUT, 0, EXPLAINED),
+    (&["lot_sim", "explain"], "lottery 9\n", 1, BAD_HEADER),
     (
         &["lot_sim", "explain", "--funding"],
         FUNDED,
@@ -545,12 +514,6 @@ static FUNDING_ROWS: [Row; 2] = [
     ),
     (&["lot_sim", "explain", "--funding"], INPUT, 0, EXPLAINED),
 ];
-
-#[test]
-fn explained_funding(rt: HostRuntime) {
-    check_rows(&rt, rt.alloc(), &FUNDING_ROWS);
-    check_words(&rt, rt.alloc(), &["lot_sim", "play", "--funding"], 2, false);
-}
 
 /// An input of three threads and two processors, with this line of seeds, or none if it is empty.
 fn with_seeds(rt: &impl Abort, alloc: Global, seeds: &str) -> String {
@@ -605,17 +568,12 @@ const BESIDE_OPTIONS: &[&[&str]] = &[
     &["lot_sim", "chart", "--seed=7", "--title", "x"],
 ];
 
-/// The program takes the least and the largest seed, before or after the other options. It refuses a faulty line of
-/// seeds even with another seed given.
+/// The program takes the least and the largest seed, before or after the other options.
 #[test]
 fn given_seeds_beside_options(rt: HostRuntime) {
-    let alloc = rt.alloc();
     for words in BESIDE_OPTIONS {
-        check_taken(&rt, alloc, words);
+        check_taken(&rt, rt.alloc(), words);
     }
-    let words = ["lot_sim", "play", "--seed", "5"];
-    let refused = "refused line 2 52 BadNumber\n";
-    check_output_of(&rt, alloc, &words, "lottery 1\nseed 0\n", 1, refused);
 }
 
 /// Checks that the program takes the words, and writes something.
@@ -633,19 +591,17 @@ fn check_taken<H: Abort + Threads + Wait + Sync>(rt: &H, alloc: Global, words: &
 const NO_SEED: &[&str] = &["", "0", "x", "1.5", "2147483647", "99999999999999999999"];
 
 /// Words with a refused seed, and `run`, which takes no seed.
-const REFUSED_SEEDS: &[&[&str]] = &[
+pub(crate) const REFUSED_SEEDS: &[&[&str]] = &[
     &["lot_sim", "play", "--seed", "-1"],
     &["lot_sim", "run", "--seed", "1"],
 ];
 
-/// The diagnostics name the refused seed, and `run` takes no seed.
+/// The diagnostics name the refused seed.
 #[test]
 fn refused_seeds(rt: HostRuntime) {
-    let alloc = rt.alloc();
     for seed in NO_SEED {
-        check_refused_seed(&rt, alloc, seed);
+        check_refused_seed(&rt, rt.alloc(), seed);
     }
-    check_refused_words(&rt, alloc, REFUSED_SEEDS);
 }
 
 /// Checks that the diagnostics name this refused seed.

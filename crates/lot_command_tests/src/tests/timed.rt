@@ -1,7 +1,5 @@
 //! Timed inputs.
 
-use super::check_plays;
-
 /// Nothing to do.
 const IDLE: (&str, &str) = (
     "lottery 3\nfor 10\n",
@@ -419,7 +417,7 @@ total turns 37 quanta 10 ticks 54 refused 2 left 0 ended 3 mean 15.333 longest 2
 ",
 );
 
-static TURNS_IN_TIME: [(&str, &str); 12] = [
+pub(crate) const TURNS_IN_TIME: &[(&str, &str)] = &[
     IDLE,
     SPINNERS,
     LATER,
@@ -434,20 +432,15 @@ static TURNS_IN_TIME: [(&str, &str); 12] = [
     COMPENSATED,
 ];
 
-#[test]
-fn turns_in_time(rt: HostRuntime) {
-    check_plays(&rt, rt.alloc(), 0, &TURNS_IN_TIME);
-}
-
 /// Inputs of threads that sleep. The outputs are computed by a small model of the rules.
-const SLEEPERS_IN_TIME: &[(&str, &str)] = &[SLEEPERS, LAST_TICK, SLEEPING_OWNER, NUMBERS_AGAIN];
+pub(crate) const SLEEPERS_IN_TIME: &[(&str, &str)] = &[
+    SLEEPERS,
+    LAST_TICK,
+    SLEEPING_OWNER,
+    NUMBERS_AGAIN,
+];
 
-#[test]
-fn sleepers_in_time(rt: HostRuntime) {
-    check_plays(&rt, rt.alloc(), 0, SLEEPERS_IN_TIME);
-}
-
-const REFUSED_SLEEPS: &[(&str, &str)] = &[
+pub(crate) const REFUSED_SLEEPS: &[(&str, &str)] = &[
     (
         "lottery 1\nscript s\nsleep 5\n",
         "refused line 3 51 BadLine\n",
@@ -469,8 +462,3 @@ const REFUSED_SLEEPS: &[(&str, &str)] = &[
         "refused line 4 52 BadNumber\n",
     ),
 ];
-
-#[test]
-fn refused_sleeps(rt: HostRuntime) {
-    check_plays(&rt, rt.alloc(), 1, REFUSED_SLEEPS);
-}

@@ -1,6 +1,7 @@
 //! Diagnostics in words on standard error.
 
 use super::inputs::on_standard;
+use super::refused::FAULTS;
 use super::same::{check_same, check_same_at};
 use super::{EMPTY_REPORT, Failing, ended_on};
 use lot_command::status;
@@ -11,26 +12,40 @@ use std::process::Abort;
 use std::sync::Wait;
 use std::thread::Threads;
 
-/// Plays or runs the input, and compares the exit status and the diagnostics.
+/// Calls, their input, and then the exit status and the diagnostics of each call.
+pub(crate) type Told<'a> = (&'a [&'a [&'a str]], &'a str, u8, &'a str);
+
+/// Makes the calls of a row, and compares the exit statuses and the diagnostics.
 pub(crate) fn check_told<H: Abort + Threads + Wait + Sync>(
     rt: &H,
     alloc: Global,
-    word: &str,
-    input: &str,
-    code: u8,
-    expected: &str,
+    (calls, input, code, expected): Told<'_>,
 ) {
-    let ended = ended_on(rt, alloc, &["lot_sim", word], input);
-    check_same_at(rt, &input, &(ended.code, ended.told()), &(code, expected));
+    for words in calls {
+        let ended = ended_on(rt, alloc, words, input);
+        check_same_at(
+            rt,
+            &(words, input),
+            &(ended.code, ended.told()),
+            &(code, expected),
+        );
+    }
 }
 
-#[test]
-fn refused_inputs(rt: HostRuntime) {
-    let input = "lottery 1\nmktk 5 base\n";
-    let expected = "line 2: 'mktk' is no body line; did you mean 'mktkt'?\n";
-    check_told(&rt, rt.alloc(), "play", input, 1, expected);
-    check_told(&rt, rt.alloc(), "run", input, 1, expected);
+/// Makes the calls of all rows.
+fn check_all_told<H: Abort + Threads + Wait + Sync>(rt: &H, alloc: Global, rows: &[Told<'_>]) {
+    for row in rows {
+        check_told(rt, alloc, *row);
+    }
 }
+
+pub(crate) const PLAY: &[&[&str]] = &[&["lot_sim", "play"]];
+
+const RUN: &[&[&str]] = &[&["lot_sim", "run"]];
+
+const PLAY_AND_RUN: &[&[&str]] = &[&["lot_sim", "play"], &["lot_sim", "run"]];
+
+const PLAY_AND_EXPLAIN: &[&[&str]] = &[&["lot_sim", "play"], &["lot_sim", "explain"]];
 
 /// Plays the input with an output for diagnostics that fails. Returns the exit status and whether this output was
 /// written.
@@ -63,119 +78,6 @@ fn failing_errors(rt: HostRuntime) {
         let ended = ended_untold(&rt, rt.alloc(), input, expected);
         check_same(&rt, &ended, &(*code, true));
     }
-}
-
-#[test]
-fn nothing_to_tell(rt: HostRuntime) {
-    let input = "lottery 1\nscript s\ncompute 5\nendscript\nfundx 10 base a s\nschedule 0 1 1\n";
-    check_told(&rt, rt.alloc(), "play", input, 0, "");
-    check_told(&rt, rt.alloc(), "run", input, 0, "");
-}
-
-#[test]
-fn commands(rt: HostRuntime) {
-    let input =
-        "lottery 1\nscript s\ncompute 5\nendscript\n# a comment and an empty line come between the commands\n\n\
-        mktkt 0 base\nscript t\nyield\nendscript\nmkthr a u\nmkthr b t\nmkcur c\nschedule 0 0\n";
-    let expected =
-        "line 7: the command was refused: an amount is a number from 1 to 4294967295, and not 0
-line 11: the command was refused: no script of an earlier line has the name 'u'
-line 12: this command and those after it, 2 in all, were never made: each 0 in a schedule makes one
-";
-    check_told(&rt, rt.alloc(), "play", input, 0, expected);
-    check_told(&rt, rt.alloc(), "explain", input, 0, expected);
-}
-
-#[test]
-fn removals(rt: HostRuntime) {
-    let input =
-        "lottery 3\nquantum 8\nfor 8\nscript s\ncompute 4\nendscript\nfundx 3 base a s\nrmthr a\nat 6\nrmthr a\n\
-        unfund 1\nrmthr a\nrmthr a\n";
-    let expected = "line 8: the command was refused: the thread hasn't ended
-line 10: the command was refused: tickets are in it or fund it, or the thread has a client or owns a mutex
-line 13: the command was refused: no thread has the name 'a'
-";
-    check_told(&rt, rt.alloc(), "play", input, 0, expected);
-}
-
-#[test]
-fn kills(rt: HostRuntime) {
-    let input =
-        "lottery 3\nquantum 8\nfor 8\nscript s\ncompute 40\nendscript\nfundx 3 base a s\nat 3\nkill a\nkill a\n\
-        kill b\n";
-    let expected = "line 10: the command was refused: the thread has ended
-line 11: the command was refused: no thread has the name 'b'
-";
-    check_told(&rt, rt.alloc(), "play", input, 0, expected);
-}
-
-#[test]
-fn one_command_never_made(rt: HostRuntime) {
-    let input = "lottery 1\nmkcur a\nmkcur b\nschedule 0\n";
-    let expected = "line 3: this command was never made: each 0 in a schedule makes one\n";
-    check_told(&rt, rt.alloc(), "play", input, 0, expected);
-}
-
-#[test]
-fn many_refused(rt: HostRuntime) {
-    let input =
-        "lottery 1\nrmtkt 1\nrmtkt 2\nrmtkt 3\nrmtkt 4\nrmtkt 5\nrmtkt 6\nrmtkt 7\nrmtkt 8\nrmtkt 9\nrmtkt 10\n\
-        schedule 0 0 0 0 0 0 0 0 0 0\n";
-    let expected = "line 2: the command was refused: no ticket has the number 1
-line 3: the command was refused: no ticket has the number 2
-line 4: the command was refused: no ticket has the number 3
-line 5: the command was refused: no ticket has the number 4
-line 6: the command was refused: no ticket has the number 5
-line 7: the command was refused: no ticket has the number 6
-line 8: the command was refused: no ticket has the number 7
-line 9: the command was refused: no ticket has the number 8
-and 2 more commands that were refused
-";
-    check_told(&rt, rt.alloc(), "play", input, 0, expected);
-}
-
-// A server without tickets of its own: after its reply no ticket funds it, so it never takes the second call, and both
-// clients wait.
-#[test]
-fn stuck_server(rt: HostRuntime) {
-    let input =
-        "lottery 1\nquantum 10\nport p\nscript srv\nreceive p\nreply\nreceive p\nendscript\n\
-        script cli\ncall p\ncall p\nendscript\nmkthr s srv\nfundx 5 base c cli\nschedule 0 0 1 1 1 1 1 1 1 1 1\n";
-    let expected =
-        "thread 's' is ready at the end and weighs nothing: it wins no draw before something funds it
-thread 'c' waits for good for a server at port 'p'
-";
-    check_told(&rt, rt.alloc(), "play", input, 0, expected);
-}
-
-// The owner of the mutex has ended, so no thread will unlock it.
-#[test]
-fn mutex_kept_by_the_dead(rt: HostRuntime) {
-    let input =
-        "lottery 1\nquantum 10\nmutex m\nscript one\nlock m\nendscript\nfundx 5 base a one\nfundx 5 base b one\n\
-        schedule 0 0 1 1 1 1 1 1 1\n";
-    let expected = "thread 'b' waits for good for mutex 'm', whose owner, thread 'a', has ended\n";
-    check_told(&rt, rt.alloc(), "play", input, 0, expected);
-}
-
-// The server has ended with a client.
-#[test]
-fn server_that_ended(rt: HostRuntime) {
-    let input =
-        "lottery 1\nquantum 10\nport p\nscript srv\nreceive p\nendscript\nscript cli\ncall p\nendscript\n\
-        fundx 5 base s srv\nfundx 5 base c cli\nfundx 5 base d cli\nschedule 0 0 0 1 1 1 1 1 1 1 1 1 1 1\n";
-    let expected = "thread 'c' waits for good for a reply of thread 's'
-thread 'd' waits for good for a server at port 'p'
-";
-    check_told(&rt, rt.alloc(), "play", input, 0, expected);
-}
-
-// The owner of the mutex sleeps at the end, and would go on.
-#[test]
-fn mutex_of_a_sleeper(rt: HostRuntime) {
-    let input = "lottery 3\nquantum 10\nfor 30\nmutex m\nscript own\nlock m sleep 100\nendscript\n\
-        script wants\nlock m\nendscript\nfundx 1 base a own\nat 5\nfundx 1 base b wants\n";
-    check_told(&rt, rt.alloc(), "play", input, 0, "");
 }
 
 /// An output that stores only its last two writes.
@@ -337,93 +239,289 @@ fn refused_commands_of_tables(rt: HostRuntime) {
     }
 }
 
-/// Inputs on standard input, and the diagnostics of a play of each.
-const SHOW_LITTLE: &[(&str, &str)] = &[
-    ("lottery 3\nfor 300\n", NO_THREAD),
-    (
-        "lottery 3\nfor 300\nscript s\nendscript\nmkcur c\nat 5\nlscur\n",
-        NO_THREAD,
-    ),
-    (
-        "lottery 3\nfor 50\nscript s\ncompute 90 endscript\nfundx 1 base a s\n",
-        "the run of 50 ticks is shorter than a quantum of 100, whose ticks count when it is over\n",
-    ),
-    (
-        "lottery 3\nquantum 9\nfor 8\nscript s\ncompute 90 endscript\nfundx 1 base a s\n",
-        "the run of 8 ticks is shorter than a quantum of 9, whose ticks count when it is over\n",
-    ),
-    (
-        "lottery 3\nquantum 8\nfor 8\nscript s\ncompute 90 endscript\nfundx 1 base a s\n",
-        "",
-    ),
-    ("lottery 1\nmkcur c\nschedule 0 1\n", ""),
-];
-
-#[test]
-fn runs_that_show_little(rt: HostRuntime) {
-    for (input, expected) in SHOW_LITTLE {
-        check_told(&rt, rt.alloc(), "play", input, 0, expected);
-    }
-}
-
 /// A thread that computes for 300 ticks.
 const SPINS: &str = "lottery 3\nfor 300\nscript s\ncompute 900 endscript\nfundx 1 base a s\n";
 
 const NO_TURNS: &str =
     "the processors make no turns: the header has no 'turns T', how many each makes in a run\n";
 
-// A run has no time, so it is never shorter than a quantum.
-#[test]
-fn runs_without_turns(rt: HostRuntime) {
-    let alloc = rt.alloc();
-    check_told(&rt, alloc, "run", SPINS, 0, NO_TURNS);
-    check_told(
-        &rt,
-        alloc,
-        "run",
-        "lottery 3\nturns 0\nfor 1\nmkcur c\n",
-        0,
-        NO_THREAD,
-    );
-    check_told(&rt, alloc, "play", SPINS, 0, "");
-}
-
 const NO_THREAD: &str =
     "nothing runs: no line makes a thread, as 'fundx AMOUNT CURRENCY NAME SCRIPT' does\n";
-
-/// The starts of intervals, and the diagnostics.
-const BEGINNINGS: &[(&str, &str)] = &[
-    ("299", ""),
-    (
-        "300",
-        "nothing is left to show: '--from 300' isn't before the end of the run at 300\n",
-    ),
-    (
-        "9000",
-        "nothing is left to show: '--from 9000' isn't before the end of the run at 300\n",
-    ),
-];
-
-#[test]
-fn beginnings_after_the_end(rt: HostRuntime) {
-    for (from, expected) in BEGINNINGS {
-        for word in ["shares", "chart"] {
-            let ended = ended_on(&rt, rt.alloc(), &["lot_sim", word, "--from", *from], SPINS);
-            check_same_at(&rt, &word, &(ended.code, ended.told()), &(0, *expected));
-        }
-    }
-}
 
 /// The thread that wins the first draw is the only one that runs. Thread `a` unlocks a mutex that it doesn't own.
 const STRICT: &str =
     "lottery 3\nfor 10\nquantum 10\nstrict\nmutex m\nscript bad\nunlock m endscript\n\
     script good\ncompute 90 endscript\nfundx 1 base a bad\nfundx 1 base b good\n";
 
-// The drawn number, modulo the 512 units that both weigh, is 265 with the seed 1, and 11 with the seed 2.
+/// What the calls tell of commands.
+const OF_COMMANDS: &[Told<'static>] = &[
+    // A misspelt command.
+    (
+        PLAY_AND_RUN,
+        "lottery 1\nmktk 5 base\n",
+        1,
+        "line 2: 'mktk' is no body line; did you mean 'mktkt'?\n",
+    ),
+    // Nothing to tell.
+    (
+        PLAY_AND_RUN,
+        "lottery 1\nscript s\ncompute 5\nendscript\nfundx 10 base a s\nschedule 0 1 1\n",
+        0,
+        "",
+    ),
+    // Refused commands, and commands that are never made.
+    (
+        PLAY_AND_EXPLAIN,
+        "lottery 1\nscript s\ncompute 5\nendscript\n# a comment and an empty line come between the commands\n\n\
+        mktkt 0 base\nscript t\nyield\nendscript\nmkthr a u\nmkthr b t\nmkcur c\nschedule 0 0\n",
+        0,
+        "line 7: the command was refused: an amount is a number from 1 to 4294967295, and not 0
+line 11: the command was refused: no script of an earlier line has the name 'u'
+line 12: this command and those after it, 2 in all, were never made: each 0 in a schedule makes one
+",
+    ),
+    // Removals of threads.
+    (
+        PLAY,
+        "lottery 3\nquantum 8\nfor 8\nscript s\ncompute 4\nendscript\nfundx 3 base a s\nrmthr a\nat 6\nrmthr a\n\
+        unfund 1\nrmthr a\nrmthr a\n",
+        0,
+        "line 8: the command was refused: the thread hasn't ended
+line 10: the command was refused: tickets are in it or fund it, or the thread has a client or owns a mutex
+line 13: the command was refused: no thread has the name 'a'
+",
+    ),
+    // Kills of threads.
+    (
+        PLAY,
+        "lottery 3\nquantum 8\nfor 8\nscript s\ncompute 40\nendscript\nfundx 3 base a s\nat 3\nkill a\nkill a\n\
+        kill b\n",
+        0,
+        "line 10: the command was refused: the thread has ended
+line 11: the command was refused: no thread has the name 'b'
+",
+    ),
+    // One command that is never made.
+    (
+        PLAY,
+        "lottery 1\nmkcur a\nmkcur b\nschedule 0\n",
+        0,
+        "line 3: this command was never made: each 0 in a schedule makes one\n",
+    ),
+    // More refused commands than are told.
+    (
+        PLAY,
+        "lottery 1\nrmtkt 1\nrmtkt 2\nrmtkt 3\nrmtkt 4\nrmtkt 5\nrmtkt 6\nrmtkt 7\nrmtkt 8\nrmtkt 9\nrmtkt 10\n\
+        schedule 0 0 0 0 0 0 0 0 0 0\n",
+        0,
+        "line 2: the command was refused: no ticket has the number 1
+line 3: the command was refused: no ticket has the number 2
+line 4: the command was refused: no ticket has the number 3
+line 5: the command was refused: no ticket has the number 4
+line 6: the command was refused: no ticket has the number 5
+line 7: the command was refused: no ticket has the number 6
+line 8: the command was refused: no ticket has the number 7
+line 9: the command was refused: no ticket has the number 8
+and 2 more commands that were refused
+",
+    ),
+];
+
+/// What the calls tell of threads that wait.
+const OF_WAITS: &[Told<'static>] = &[
+    // A server without tickets of its own: after its reply no ticket funds it, so it never takes the second call, and
+    // both clients wait.
+    (
+        PLAY,
+        "lottery 1\nquantum 10\nport p\nscript srv\nreceive p\nreply\nreceive p\nendscript\n\
+        script cli\ncall p\ncall p\nendscript\nmkthr s srv\nfundx 5 base c cli\nschedule 0 0 1 1 1 1 1 1 1 1 1\n",
+        0,
+        "thread 's' is ready at the end and weighs nothing: it wins no draw before something funds it
+thread 'c' waits for good for a server at port 'p'
+",
+    ),
+    // The owner of the mutex has ended, so no thread will unlock it.
+    (
+        PLAY,
+        "lottery 1\nquantum 10\nmutex m\nscript one\nlock m\nendscript\nfundx 5 base a one\nfundx 5 base b one\n\
+        schedule 0 0 1 1 1 1 1 1 1\n",
+        0,
+        "thread 'b' waits for good for mutex 'm', whose owner, thread 'a', has ended\n",
+    ),
+    // The server has ended with a client.
+    (
+        PLAY,
+        "lottery 1\nquantum 10\nport p\nscript srv\nreceive p\nendscript\nscript cli\ncall p\nendscript\n\
+        fundx 5 base s srv\nfundx 5 base c cli\nfundx 5 base d cli\nschedule 0 0 0 1 1 1 1 1 1 1 1 1 1 1\n",
+        0,
+        "thread 'c' waits for good for a reply of thread 's'
+thread 'd' waits for good for a server at port 'p'
+",
+    ),
+    // The owner of the mutex sleeps at the end, and would go on.
+    (
+        PLAY,
+        "lottery 3\nquantum 10\nfor 30\nmutex m\nscript own\nlock m sleep 100\nendscript\n\
+        script wants\nlock m\nendscript\nfundx 1 base a own\nat 5\nfundx 1 base b wants\n",
+        0,
+        "",
+    ),
+];
+
+/// What the calls tell of runs that show little.
+const OF_RUNS: &[Told<'static>] = &[
+    (PLAY, "lottery 3\nfor 300\n", 0, NO_THREAD),
+    (
+        PLAY,
+        "lottery 3\nfor 300\nscript s\nendscript\nmkcur c\nat 5\nlscur\n",
+        0,
+        NO_THREAD,
+    ),
+    (
+        PLAY,
+        "lottery 3\nfor 50\nscript s\ncompute 90 endscript\nfundx 1 base a s\n",
+        0,
+        "the run of 50 ticks is shorter than a quantum of 100, whose ticks count when it is over\n",
+    ),
+    (
+        PLAY,
+        "lottery 3\nquantum 9\nfor 8\nscript s\ncompute 90 endscript\nfundx 1 base a s\n",
+        0,
+        "the run of 8 ticks is shorter than a quantum of 9, whose ticks count when it is over\n",
+    ),
+    (
+        PLAY,
+        "lottery 3\nquantum 8\nfor 8\nscript s\ncompute 90 endscript\nfundx 1 base a s\n",
+        0,
+        "",
+    ),
+    (PLAY, "lottery 1\nmkcur c\nschedule 0 1\n", 0, ""),
+    // A run has no time, so it is never shorter than a quantum.
+    (RUN, SPINS, 0, NO_TURNS),
+    (RUN, "lottery 3\nturns 0\nfor 1\nmkcur c\n", 0, NO_THREAD),
+    (PLAY, SPINS, 0, ""),
+];
+
+/// What the calls tell of plays that end before what they are to show.
+const OF_ENDS: &[Told<'static>] = &[
+    // Beginnings after the end.
+    (
+        &[
+            &["lot_sim", "shares", "--from", "299"],
+            &["lot_sim", "chart", "--from", "299"],
+        ],
+        SPINS,
+        0,
+        "",
+    ),
+    (
+        &[
+            &["lot_sim", "shares", "--from", "300"],
+            &["lot_sim", "chart", "--from", "300"],
+        ],
+        SPINS,
+        0,
+        "nothing is left to show: '--from 300' isn't before the end of the run at 300\n",
+    ),
+    (
+        &[
+            &["lot_sim", "shares", "--from", "9000"],
+            &["lot_sim", "chart", "--from", "9000"],
+        ],
+        SPINS,
+        0,
+        "nothing is left to show: '--from 9000' isn't before the end of the run at 300\n",
+    ),
+    // A refusal of another play. The drawn number, modulo the 512 units that both weigh, is 265 with the seed 1, and 11
+    // with the seed 2.
+    (
+        &[&["lot_sim", "report", "--seeds", "1..2"]],
+        STRICT,
+        1,
+        "a refusal ended a play with another seed than the first: the input is strict\n",
+    ),
+];
+
+/// What the program tells of words that it refuses.
+const OF_WORDS: &[Told<'static>] = &[
+    (
+        &[&["lot_sim", "x.lot"]],
+        "",
+        2,
+        "error: unrecognized subcommand 'x.lot'
+
+  tip: 'lot_sim play x.lot' plays a file of this name
+
+Usage: lot_sim <COMMAND>
+
+For more information, try '--help'.
+",
+    ),
+    (
+        &[&["lot_sim", "play", "--csv"]],
+        "",
+        2,
+        "error: unexpected argument '--csv' found
+
+  tip: 'report' has it: 'lot_sim report --csv'
+
+Usage: lot_sim play [OPTIONS] [FILE]
+
+For more information, try '--help'.
+",
+    ),
+    (
+        &[&["lot_sim", "shares", "x.lot", "--by=currency"]],
+        "",
+        2,
+        "error: unexpected argument '--by' found
+
+  tip: 'chart' has it: 'lot_sim chart --by'
+
+Usage: lot_sim shares [OPTIONS] [FILE]
+
+For more information, try '--help'.
+",
+    ),
+    (
+        &[&["lot_sim", "chart", "-o", "x.svg"]],
+        "",
+        2,
+        "error: unexpected argument '-o' found
+
+Usage: lot_sim chart [OPTIONS] [FILE]
+
+For more information, try '--help'.
+",
+    ),
+];
+
 #[test]
-fn a_refusal_of_another_play(rt: HostRuntime) {
-    let words = ["lot_sim", "report", "--seeds", "1..2"];
-    let ended = ended_on(&rt, rt.alloc(), &words, STRICT);
-    let told = "a refusal ended a play with another seed than the first: the input is strict\n";
-    check_same(&rt, &(ended.code, ended.told()), &(1, told));
+fn told_of_commands(rt: HostRuntime) {
+    check_all_told(&rt, rt.alloc(), OF_COMMANDS)
+}
+
+#[test]
+fn told_of_waits(rt: HostRuntime) {
+    check_all_told(&rt, rt.alloc(), OF_WAITS)
+}
+
+#[test]
+fn told_of_runs(rt: HostRuntime) {
+    check_all_told(&rt, rt.alloc(), OF_RUNS)
+}
+
+#[test]
+fn told_of_ends(rt: HostRuntime) {
+    check_all_told(&rt, rt.alloc(), OF_ENDS)
+}
+
+#[test]
+fn told_of_words(rt: HostRuntime) {
+    check_all_told(&rt, rt.alloc(), OF_WORDS)
+}
+
+#[test]
+fn told_of_faults(rt: HostRuntime) {
+    check_all_told(&rt, rt.alloc(), FAULTS)
 }

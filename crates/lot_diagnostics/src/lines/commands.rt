@@ -2,7 +2,7 @@
 ghost use Rattle.std.specs.Prelude.{◌≡◌};
 
 use crate::lines::forms::{argument_named, is_command};
-use crate::lines::keywords::row_of;
+use crate::lines::keywords::body_word;
 use crate::lines::line::{ends_line, first_word};
 use crate::lines::script::{OpenScript, after_line};
 use lot_simulation::{BodyWord, Form};
@@ -71,7 +71,7 @@ impl<'a> InputCommand<'a> {
 }
 
 /// The progress of reading the lines of an input.
-#[derive(Drop)]
+#[derive(Clone, Copy)]
 struct Reading {
     script: Option<OpenScript>,
     /// The number of lines.
@@ -98,7 +98,8 @@ impl Reading {
             self.script = after_line(open, line);
             return None;
         }
-        let (_, word, form) = row_of::<BodyWord>(first_word(line))?;
+        let word = body_word(first_word(line))?;
+        let form = word.form();
         match word {
             BodyWord::Script => self.script = Some(OpenScript::opened(self.number)),
             BodyWord::At => self.time = time_given(form, line),

@@ -1,13 +1,13 @@
 //! The forms of lines, and the words at their arguments' places.
 ghost use Rattle.std.specs.Prelude.{◌≡◌, ◌≢◌, IsTrue, IsFalse};
 
-use crate::lines::keywords::{header_word, row_of};
+use crate::lines::keywords::{body_word, header_word};
 use crate::lines::line::word_at;
-use lot_simulation::{Argument, BodyWord, Form, HeaderWord};
+use lot_simulation::{Argument, Form, HeaderWord};
 use std::fmt;
 
 /// A whole line: its first word, and placeholders for the others.
-#[derive(Clone, Copy, Debug)]
+#[derive(Clone, Copy)]
 pub struct Shape<'a> {
     /// The first word.
     pub word: &'a str,
@@ -109,7 +109,7 @@ pub(crate) fn argument_named<'a>(form: Form, line: &'a [u8], name: &str) -> Opti
 pub fn form_outside(word: &str) -> Option<Form> {
     match header_word(word) {
         Some(HeaderWord::Lottery) => None,
-        Some(_) => Some(row_of::<HeaderWord>(word)?.2),
-        None => Some(row_of::<BodyWord>(word)?.2),
+        Some(word) => Some(word.form()),
+        None => Some(body_word(word)?.form()),
     }
 }

@@ -1,7 +1,7 @@
 //! The lines of a header.
 
 use crate::lines::forms::argument_named;
-use crate::lines::keywords::{body_word, header_word, row_of};
+use crate::lines::keywords::{body_word, header_word};
 use crate::lines::line::{ends_line, first_word};
 use lot_simulation::{Format, HeaderWord};
 
@@ -36,8 +36,7 @@ fn begins_body(line: &[u8]) -> bool {
 /// The argument with this name of the header line that begins with this word, if the accepted input has such a line.
 fn header_argument<'a>(input: &'a [u8], word: HeaderWord, name: &str) -> Option<&'a str> {
     let line = header_line(input, word)?;
-    let (_, _, form) = row_of::<HeaderWord>(first_word(line))?;
-    argument_named(form, line, name)
+    argument_named(word.form(), line, name)
 }
 
 /// The argument with this name, as a number, of the header line that begins with this word, if the accepted input has

@@ -4,10 +4,9 @@ use crate::lines::forms::{argument_named, form_outside, words_at_end};
 use crate::lines::keywords::{body_word, spelling_of};
 use crate::lines::line::{ends_line, first_word};
 use lot_simulation::{AS_WORD, BodyWord};
-use std::fmt;
 
 /// A kind of named things.
-#[derive(Clone, Copy, Debug)]
+#[derive(Clone, Copy)]
 pub enum Named {
     /// Things whose lines begin with this word.
     ByWord(BodyWord),
@@ -23,13 +22,12 @@ impl Named {
             Named::Ticket => ticket_name_given(line),
         }
     }
-}
 
-impl fmt::Display for Named {
-    fn fmt<W: fmt::Write>(&self, f: &mut fmt::Formatter<W>) -> fmt::Result {
+    /// The kind in words.
+    pub fn text(self) -> &'static str {
         match self {
-            Named::ByWord(word) => f.write_str(spelling_of(*word)),
-            Named::Ticket => f.write_str("ticket"),
+            Named::ByWord(word) => spelling_of(BodyWord::table(), word),
+            Named::Ticket => "ticket",
         }
     }
 }

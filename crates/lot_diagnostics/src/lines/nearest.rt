@@ -1,10 +1,10 @@
 //! Suggestions for misspelt words.
 ghost use Rattle.std.specs.Prelude.{◌≡◌, ◌≢◌, ◌<◌};
 
-use crate::lines::keywords::{Keyword, text_of};
+use crate::lines::keywords::text_of;
 use crate::lines::line::ends_line;
 use crate::lines::names::Named;
-use lot_simulation::{Format, WordRow};
+use lot_simulation::WordRow;
 use std::alloc::{AllocError, Global};
 use std::fmt;
 use strsim::osa_distance;
@@ -14,7 +14,7 @@ use strsim::osa_distance;
 const MOST_EDITS: usize = 2;
 
 /// The text nearest to a misspelt word, if one is near. There is no suggestion if a text is the same.
-#[derive(Clone, Copy, Debug)]
+#[derive(Clone, Copy)]
 pub struct Nearest<'a> {
     text: Option<&'a str>,
     /// The distance, 0 for the same text.
@@ -53,6 +53,40 @@ impl<'a> Nearest<'a> {
         } else {
             self
         }
+    }
+
+    /// The nearest of this text and the words of this table. It looks at words of timed inputs last, and only for such
+    /// an input.
+    pub fn or_word<W: Copy>(
+        self,
+        alloc: Global,
+        table: &'static [WordRow<W>],
+        is_timed: bool,
+        misspelt: &str,
+    ) -> Nearest<'a> {
+        let nearest = self.or_word_of(alloc, table, false, misspelt);
+        if is_timed {
+            nearest.or_word_of(alloc, table, true, misspelt)
+        } else {
+            nearest
+        }
+    }
+
+    /// Like `or_word`, with only those words of the table that are for timed inputs alone, or only the others.
+    fn or_word_of<W: Copy>(
+        self,
+        alloc: Global,
+        table: &'static [WordRow<W>],
+        is_timed: bool,
+        misspelt: &str,
+    ) -> Nearest<'a> {
+        let mut nearest = self;
+        for (spelling, _, is_only_timed) in table {
+            if *is_only_timed == is_timed {
+                nearest = nearest.or(alloc, misspelt, text_of(*spelling));
+            }
+        }
+        nearest
     }
 
     /// The text, empty if none is near, or `None` if out of memory.
@@ -95,39 +129,6 @@ impl fmt::Display for Nearest<'_> {
             _ => Ok(()),
         }
     }
-}
-
-/// The word of this table nearest to this one. It looks at words of timed inputs last, and only for such an input.
-pub fn nearest_word<W: Keyword>(
-    alloc: Global,
-    table: &[WordRow<W>],
-    is_timed: bool,
-    misspelt: &str,
-) -> Nearest<'static> {
-    nearer_word(alloc, Nearest::NONE, table, is_timed, misspelt)
-}
-
-/// The word of this table nearest to the misspelt one, unless this text is as near. It looks at words of timed inputs
-/// last, and only for such an input.
-pub fn nearer_word<'a, W: Keyword>(
-    alloc: Global,
-    text: Nearest<'a>,
-    table: &[WordRow<W>],
-    is_timed: bool,
-    misspelt: &str,
-) -> Nearest<'a> {
-    let mut nearest = text;
-    for (spelling, _, _) in table {
-        if W::is_read(Format::V1, *spelling) {
-            nearest = nearest.or(alloc, misspelt, text_of(*spelling));
-        }
-    }
-    for (spelling, _, _) in table {
-        if is_timed && !W::is_read(Format::V1, *spelling) {
-            nearest = nearest.or(alloc, misspelt, text_of(*spelling));
-        }
-    }
-    nearest
 }
 
 /// The name nearest to this one, among those that one of these lines gives to things of these kinds.

@@ -3,7 +3,7 @@
 use std::fmt;
 
 /// The location at the start of a message, as in compilers' messages: a file, and a line.
-#[derive(Clone, Copy, Debug)]
+#[derive(Clone, Copy)]
 pub struct Location<'a> {
     /// The name of the file, or `None` for standard input.
     pub file: Option<&'a str>,

@@ -1,7 +1,7 @@
 //! The script that is open at a line.
 ghost use Rattle.std.specs.Prelude.{◌≡◌, ◌≢◌, ◌↔◌, ◌+◌, ◌-◌, ◌^◌, min, IfSome, IsNone};
 
-use crate::lines::keywords::row_of;
+use crate::lines::keywords::script_word;
 use crate::lines::line::words_of;
 use lot_simulation::ScriptWord;
 
@@ -61,9 +61,9 @@ pub fn after_line(script: OpenScript, line: &[u8]) -> Option<OpenScript> {
         }
         if is_argument {
             is_argument = false;
-        } else if let Some((_, word, form)) = row_of::<ScriptWord>(word) {
+        } else if let Some(word) = script_word(word) {
             open = open.after(word)?;
-            is_argument = form.len() > 0;
+            is_argument = !word.stands_alone();
         }
     }
     Some(open)

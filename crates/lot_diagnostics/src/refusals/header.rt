@@ -1,51 +1,59 @@
-//! The lines of a header.
+//! The problems that the header causes for a line.
 
-use crate::lines::{Keyword, text_of};
-use lot_simulation::{Format, HEADER_WORDS, HeaderWord};
-use std::fmt;
+use crate::lines::{first_word, has_header_line, header_word, word_at};
+use crate::refusals::input::Refused;
+use lot_simulation::{FIRST_WORD, Format, HeaderWord};
 
-/// The words that begin the header lines of this format, in the order of the lines.
-#[derive(Clone, Copy, Debug)]
-pub(crate) struct HeaderLines(pub(crate) Format);
-
-impl fmt::Display for HeaderLines {
-    fn fmt<W: fmt::Write>(&self, f: &mut fmt::Formatter<W>) -> fmt::Result {
-        let last = last_place(self.0);
-        let mut between = "";
-        for place in 0..PLACES {
-            let Some(spelling) = spelling_at(self.0, place) else {
-                continue;
-            };
-            if place == last {
-                between = " and ";
-            }
-            write!(f, "{between}'{spelling}'")?;
-            between = ", ";
-        }
-        Ok(())
+/// The message on a line that begins with this word and is refused for the header. Its part, if any, is the word.
+pub(crate) fn header_text(refused: &Refused<'_>, word: &str) -> &'static str {
+    if !refused.has_start {
+        start_text(refused.line)
+    } else if refused.is_timed() {
+        timed_header_text(refused, word)
+    } else {
+        "'{}' comes too late: the header has 'lottery', 'processors', 'quantum', 'turns', 'seed' and 'limits', \
+        each at most once, in this order and before all else"
     }
 }
 
-/// The number of places of header lines.
-const PLACES: u32 = HEADER_WORDS.len() as u32;
+/// The message if a timed input, or a first line of one, lacks its duration.
+const NO_DURATION: &str =
+    "the header doesn't say how long the input runs: 'for TICKS' comes before the first body line";
 
-/// The place of the last header line that this format has.
-fn last_place(format: Format) -> u32 {
-    let mut last = 0;
-    for (spelling, word, _) in HeaderWord::rows() {
-        if HeaderWord::is_read(format, *spelling) {
-            last = word.place().max(last);
-        }
+/// The message on a refused first line.
+fn start_text(line: &[u8]) -> &'static str {
+    let word = first_word(line).as_bytes();
+    if is_timed_start(line) {
+        NO_DURATION
+    } else if word != FIRST_WORD && word.eq_ignore_ascii_case(FIRST_WORD) {
+        "an input begins with 'lottery 1', 'lottery 2' or 'lottery 3', in lower case"
+    } else {
+        "an input begins with 'lottery 1', 'lottery 2' or 'lottery 3'"
     }
-    last
 }
 
-/// The spelling of the word whose header line has this place, if this format has such a line.
-fn spelling_at(format: Format, place: u32) -> Option<&'static str> {
-    for (spelling, word, _) in HeaderWord::rows() {
-        if word.place() == place && HeaderWord::is_read(format, *spelling) {
-            return Some(text_of(*spelling));
-        }
+/// Whether the line is the first of a timed input. If that line is refused, it is also the last one.
+fn is_timed_start(line: &[u8]) -> bool {
+    let is_start = first_word(line).as_bytes() == FIRST_WORD && word_at(line, 2).is_none();
+    match Format::of_word(word_at(line, 1).unwrap_or("").as_bytes()) {
+        Some(format) => is_start && format.is_timed(),
+        None => false,
     }
-    None
+}
+
+/// Like `header_text`, in a timed input. A header line that isn't late is refused only if the input ends with it.
+fn timed_header_text(refused: &Refused<'_>, word: &str) -> &'static str {
+    let Some(header) = header_word(word) else {
+        return NO_DURATION;
+    };
+    if refused.in_body {
+        return "'{}' stands after a body line: header lines come before all else";
+    }
+    if has_header_line(refused.before, header) {
+        return "'{}' begins an earlier line: each header line comes at most once";
+    }
+    if header == HeaderWord::Processors && has_header_line(refused.before, HeaderWord::Seed) {
+        return "'processors' comes before 'seed', which has a number for each processor";
+    }
+    NO_DURATION
 }

@@ -16,8 +16,8 @@ pub(crate) struct Refused<'a> {
     pub(crate) end: usize,
     /// Whether one of the lines before it isn't ignored.
     pub(crate) has_start: bool,
-    /// The format, given by the first of these lines.
-    pub(crate) format: Option<Format>,
+    /// The format, given by the first of these lines, or the first format if there is none.
+    pub(crate) format: Format,
     /// Whether one of the lines before it is in the body.
     pub(crate) in_body: bool,
     /// The last time given by an `at` line.
@@ -34,7 +34,7 @@ impl<'a> Refused<'a> {
             line: &[],
             end: input.len(),
             has_start: false,
-            format: None,
+            format: Format::V1,
             in_body: false,
             now: 0,
             processors: 1,
@@ -59,18 +59,12 @@ impl<'a> Refused<'a> {
 
     /// The bytes that separate tokens in the line. A refused first line has only spaces.
     pub(crate) fn separators(&self) -> Separators {
-        match self.format {
-            Some(format) => format.separators(),
-            None => Separators::Spaces,
-        }
+        self.format.separators()
     }
 
     /// Whether the input is timed.
     pub(crate) fn is_timed(&self) -> bool {
-        match self.format {
-            Some(format) => format.is_timed(),
-            None => false,
-        }
+        self.format.is_timed()
     }
 
     /// Records the content of the line with this number.
@@ -97,7 +91,9 @@ impl<'a> Refused<'a> {
     /// Records the content of a line of the header.
     fn pass_header(&mut self, word: HeaderWord, next: &str) {
         match word {
-            HeaderWord::Lottery => self.format = Format::of_word(next.as_bytes()),
+            HeaderWord::Lottery => {
+                self.format = Format::of_word(next.as_bytes()).unwrap_or(Format::V1);
+            }
             HeaderWord::Processors => self.processors = next.parse::<u32>().unwrap_or(1),
             _ => {}
         }

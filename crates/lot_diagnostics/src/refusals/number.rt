@@ -1,52 +1,20 @@
 //! Numbers.
-ghost use Rattle.std.specs.Prelude.{◌≡◌};
 
+use crate::message::Part;
+use crate::refusals::problem::Problem;
 use lot_simulation::Range;
-use std::fmt;
-use thiserror::Error;
 
-/// A word that is no number in a range.
-#[derive(Clone, Copy, Debug, Error)]
-#[error("'{word}' is no number from {first} to {last}{note}")]
-pub(crate) struct Numeral<'a> {
-    word: &'a str,
-    first: u32,
-    last: u32,
-    note: Note,
-}
-
-impl<'a> Numeral<'a> {
-    /// This word, which is no number in this range.
-    pub(crate) fn outside(word: &'a str, range: Range) -> Numeral<'a> {
-        let Range { first, last } = range;
-        let note = Note(!is_plain(word) && word.bytes().any(|byte| byte.is_ascii_digit()));
-        Numeral {
-            word,
-            first,
-            last,
-            note,
-        }
-    }
-
-    pub(crate) fn word(&self) -> &'a str
-        ensures { result ≡ self.now.word }
-    {
-        self.word
-    }
-}
-
-/// A note on the characters of numbers, for a word of digits and others.
-#[derive(Clone, Copy, Debug)]
-struct Note(bool);
-
-impl fmt::Display for Note {
-    fn fmt<W: fmt::Write>(&self, f: &mut fmt::Formatter<W>) -> fmt::Result {
-        if self.0 {
-            f.write_str(": a number has digits alone, no sign, no fraction and no 0 before others")
-        } else {
-            Ok(())
-        }
-    }
+/// The problem with a word that is no number in this range.
+pub(crate) fn no_number<'a>(word: &'a str, range: Range) -> Problem<'a> {
+    let is_misspelt = !is_plain(word) && word.bytes().any(|byte| byte.is_ascii_digit());
+    let text = if is_misspelt {
+        "'{}' is no number from {} to {}: a number has digits alone, no sign, no fraction and no 0 before others"
+    } else {
+        "'{}' is no number from {} to {}"
+    };
+    let (first, last) = (u64::from(range.first), u64::from(range.last));
+    let parts = [Part::Text(word), Part::Number(first), Part::Number(last)];
+    Problem::of_line(text, &parts)
 }
 
 /// Whether the word is a number: digits, without a leading 0.

@@ -1,11 +1,11 @@
 //! The words of a line inside a script, one or several, each with its argument.
 
-use crate::lines::{OpenScript, Shape, argument_at, row_of, words_of};
+use crate::lines::{OpenScript, Shape, argument_at, script_word, words_of};
+use crate::message::Part;
 use crate::refusals::explain::{loop_problem, no_script_word};
 use crate::refusals::input::Refused;
-use crate::refusals::problem::{FormProblem, Problem};
+use crate::refusals::problem::Problem;
 use crate::refusals::word::word_problem;
-use lot_simulation::ScriptWord;
 use std::alloc::Global;
 
 /// The state before the next word of a line.
@@ -32,10 +32,8 @@ pub(crate) fn phrases_problem<'a>(
             return problem;
         }
     }
-    match before.unfinished {
-        Some(shape) => Some(Problem::Form(FormProblem::Unfinished(shape))),
-        None => None,
-    }
+    let shape = Part::Shape(before.unfinished?);
+    Some(Problem::of_line("a word is missing at the end: '{}'", &[shape]))
 }
 
 impl<'a> Before<'a> {
@@ -45,17 +43,18 @@ impl<'a> Before<'a> {
             return argument_problem(alloc, refused, word, shape);
         }
         let Some(script) = self.script else {
-            return Some(Problem::Form(FormProblem::BehindEnd(word)));
+            let text = "'{}' stands behind 'endscript', which ends its line";
+            return Some(Problem::of_line(text, &[Part::Text(word)]));
         };
         if word.starts_with('#') {
-            return Some(Problem::Form(FormProblem::LateComment));
+            return Some(Problem::of_line("a comment has a line of its own", &[]));
         }
-        let Some((_, keyword, form)) = row_of::<ScriptWord>(word) else {
-            let problem = no_script_word(alloc, refused, script, word);
-            return Some(Problem::Keyword(problem));
+        let Some(keyword) = script_word(word) else {
+            return Some(no_script_word(alloc, refused, script, word));
         };
         self.script = script.after(keyword);
-        if form.len() > 0 {
+        if !keyword.stands_alone() {
+            let form = keyword.form();
             self.unfinished = Some(Shape { word, form });
         }
         loop_problem(script, keyword)
@@ -70,9 +69,10 @@ fn argument_problem<'a>(
     word: &'a str,
     shape: Shape<'a>,
 ) -> Option<Problem<'a>> {
-    let problem = word_problem(alloc, refused, word, argument_at(shape.form, 0)?)?;
-    match row_of::<ScriptWord>(word) {
-        Some(_) => Some(Problem::Form(FormProblem::Missing { word, shape })),
-        None => Some(problem),
+    let problem = word_problem(alloc, refused, shape, argument_at(shape.form, 0)?, word)?;
+    if script_word(word).is_none() {
+        return Some(problem);
     }
+    let text = "a word is missing before '{}': '{}'";
+    Some(Problem::of_line(text, &[Part::Text(word), Part::Shape(shape)]))
 }

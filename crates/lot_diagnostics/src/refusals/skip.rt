@@ -1,48 +1,26 @@
 //! Whether a caller can skip a refused line, since its fault has no consequences for other lines.
-ghost use Rattle.std.specs.Prelude.{◌≡◌, IsFalse};
+ghost use Rattle.std.specs.Prelude.{◌≢◌, IsFalse};
 
 use crate::lines::{
-    Keyword, body_word, count_words, first_word, form_outside, header_word, nearer_word,
-    nearest_word, row_of, words_of,
+    Nearest, body_word, count_words, first_word, form_outside, header_word, script_word, words_of,
 };
 use crate::refusals::input::Refused;
-use crate::refusals::problem::{ByteProblem, KeywordProblem, Problem};
+use crate::refusals::problem::Cause;
 use lot_machine::form_of;
 use lot_simulation::{AS_WORD, BodyWord, Form, HeaderWord, ScriptWord};
 use std::alloc::Global;
 use std::str;
 
-/// Whether a caller can skip the refused line, given its problem.
-pub(crate) fn can_be_skipped(alloc: Global, refused: &Refused<'_>, problem: Problem<'_>) -> bool
+/// Whether a caller can skip the refused line, given the cause of its problem: only one that the line alone causes.
+pub(crate) fn can_be_skipped(alloc: Global, refused: &Refused<'_>, cause: Cause) -> bool
     ensures start { IsFalse refused.entry.now.has_start → IsFalse result }
-    ensures long { (len : _) → problem.entry ≡ Problem.Byte (ByteProblem.LongLine len) → IsFalse result }
-    ensures header { (it : _) → problem.entry ≡ Problem.Header it → IsFalse result }
-    ensures limit { (it : _) → problem.entry ≡ Problem.Limit it → IsFalse result }
-    ensures unclosed { problem.entry ≡ Problem.Unclosed → IsFalse result }
+    ensures others { cause ≢ Cause.Line → IsFalse result }
 {
     // The words of a line that isn't UTF-8 are unknown.
     let is_text = str::from_utf8(refused.line).is_ok();
-    if !refused.has_start || !is_text || !is_of_one_line(problem) {
-        return false;
-    }
-    match refused.script {
-        Some(_) => can_skip_steps(alloc, refused),
-        None => can_skip_body_line(alloc, refused),
-    }
-}
-
-/// Whether only the line itself can cause this problem.
-fn is_of_one_line(problem: Problem<'_>) -> bool
-    ensures long { (len : _) → problem.entry ≡ Problem.Byte (ByteProblem.LongLine len) → IsFalse result }
-    ensures header { (it : _) → problem.entry ≡ Problem.Header it → IsFalse result }
-    ensures limit { (it : _) → problem.entry ≡ Problem.Limit it → IsFalse result }
-    ensures unclosed { problem.entry ≡ Problem.Unclosed → IsFalse result }
-{
-    match problem {
-        Problem::Byte(ByteProblem::LongLine(_)) => false,
-        Problem::Keyword(KeywordProblem::NoBodyLine { .. } | KeywordProblem::NoScriptWord { .. }) =>
-            true,
-        Problem::Byte(_) | Problem::Form(_) | Problem::Number(_) | Problem::Name(_) => true,
+    match (cause, refused.script) {
+        (Cause::Line, Some(_)) if refused.has_start && is_text => can_skip_steps(alloc, refused),
+        (Cause::Line, None) if refused.has_start && is_text => can_skip_body_line(alloc, refused),
         _ => false,
     }
 }
@@ -51,13 +29,13 @@ fn is_of_one_line(problem: Problem<'_>) -> bool
 fn can_skip_body_line(alloc: Global, refused: &Refused<'_>) -> bool {
     let word = first_word(refused.line);
     let is_timed = refused.is_timed();
-    let nearest = nearest_word(alloc, BodyWord::rows(), is_timed, word);
-    let nearest = nearer_word(alloc, nearest, HeaderWord::rows(), is_timed, word);
-    let nearest = nearer_word(alloc, nearest, ScriptWord::rows(), is_timed, word);
+    let nearest = Nearest::NONE
+        .or_word(alloc, BodyWord::table(), is_timed, word)
+        .or_word(alloc, HeaderWord::table(), is_timed, word)
+        .or_word(alloc, ScriptWord::table(), is_timed, word);
     match nearest.text() {
         Some(meant) => {
-            let is_elsewhere = header_word(meant).is_some()
-                || row_of::<ScriptWord>(meant).is_some();
+            let is_elsewhere = header_word(meant).is_some() || script_word(meant).is_some();
             let is_needed = others_depend_on(meant) || may_name_ticket(refused, meant);
             is_plain(word) && !is_elsewhere && !is_needed
         }
@@ -90,8 +68,9 @@ fn can_skip_steps(alloc: Global, refused: &Refused<'_>) -> bool {
 /// Whether this word of a script, or the word that it misspells, takes an argument. `None` if the word prevents
 /// skipping the line, or if out of memory.
 fn has_argument(alloc: Global, is_timed: bool, word: &str) -> Option<bool> {
-    let nearest = nearest_word(alloc, ScriptWord::rows(), is_timed, word);
-    let nearest = nearer_word(alloc, nearest, BodyWord::rows(), is_timed, word);
+    let nearest = Nearest::NONE
+        .or_word(alloc, ScriptWord::table(), is_timed, word)
+        .or_word(alloc, BodyWord::table(), is_timed, word);
     match nearest.text() {
         Some(meant) if is_plain(word) && !others_depend_on(meant) => Some(takes_argument(meant)),
         _ => None,
@@ -116,20 +95,17 @@ fn is_plain(word: &str) -> bool {
 
 /// Whether this word of a script takes an argument.
 fn takes_argument(word: &str) -> bool {
-    match row_of::<ScriptWord>(word) {
-        Some((_, _, form)) => form.len() > 0,
+    match script_word(word) {
+        Some(keyword) => !keyword.stands_alone(),
         None => false,
     }
 }
 
 /// Whether other lines depend on one with this word, since it opens or closes a script or a loop, or declares a name.
 fn others_depend_on(word: &str) -> bool {
-    match row_of::<ScriptWord>(word) {
-        Some((_, ScriptWord::Loop | ScriptWord::End | ScriptWord::EndScript, _)) => true,
-        Some(_) => false,
-        None => match body_word(word) {
-            Some(BodyWord::Script | BodyWord::Port | BodyWord::Mutex) => true,
-            _ => false,
-        },
+    match (script_word(word), body_word(word)) {
+        (Some(ScriptWord::Loop | ScriptWord::End | ScriptWord::EndScript), _) => true,
+        (_, Some(BodyWord::Script | BodyWord::Port | BodyWord::Mutex)) => true,
+        _ => false,
     }
 }

@@ -27,16 +27,12 @@ const REFUSED_AMOUNTS: &[Step<'static>] = &[
     Step::Wins(1, 3, (1, 0, 1), None),
 ];
 
-#[test]
-fn refused_amounts(rt: HostRuntime) {
-    play(&rt, rt.alloc(), REFUSED_AMOUNTS)
-}
-
 /// Two threads with 100 of base each.
 const EVEN: &[(u64, &str)] = &[(100, "a"), (100, "b")];
 
 /// Thread `a` gets 300, and `b` gets 4 while it runs. Both count at once, and each ticket keeps its target.
 const INFLATION: &[Step<'static>] = &[
+    Step::Turns(199, (2, 199, 200)),
     Step::Gives("settkt 1 300", Reply::Done),
     Step::Wins(1, 300, (2, 300, 400), None),
     Step::Gives("settkt 2 4", Reply::Done),
@@ -47,14 +43,6 @@ const INFLATION: &[Step<'static>] = &[
     Step::Value(1, 300),
     Step::Value(2, 4),
 ];
-
-#[test]
-fn inflation(rt: HostRuntime) {
-    let mut kernel = largest(&rt, rt.alloc(), 1);
-    fund(&rt, &mut kernel, EVEN);
-    check_draw(&rt, &mut kernel, 199, (2, 199, 200));
-    take_all(&rt, &mut kernel, INFLATION)
-}
 
 /// Thread `b` yields after one tick of 100, so it weighs 100 times its value until it next wins, with another amount
 /// too.
@@ -67,11 +55,6 @@ const COMPENSATED: &[Step<'static>] = &[
     Step::Gives("settkt 1 1", Reply::Done),
     Step::Wins(1, 30000, (2, 30000, 30001), None),
 ];
-
-#[test]
-fn compensation_stays(rt: HostRuntime) {
-    play_funded(&rt, rt.alloc(), EVEN, COMPENSATED)
-}
 
 /// Currency `g` is worth 100: thread `b` has half of it, and thread `a` the other half, through `h`. A larger amount
 /// for `b` leaves less of `g` to `a`, and with a smaller value of `g` both are worth less. A ticket that funds nothing
@@ -95,7 +78,14 @@ const DILUTION: &[Step<'static>] = &[
     Step::Wins(1, 12, (2, 12, 19), None),
 ];
 
+const SCENES: &[Scene<'static>] = &[
+    ("refused amounts", LARGEST, &[], &[REFUSED_AMOUNTS]),
+    ("inflation", LARGEST, EVEN, &[INFLATION]),
+    ("compensation stays", LARGEST, EVEN, &[COMPENSATED]),
+    ("dilution", LARGEST, &[], &[TWO_LEVELS, DILUTION]),
+];
+
 #[test]
-fn dilution(rt: HostRuntime) {
-    play_both(&rt, rt.alloc(), &[], TWO_LEVELS, DILUTION)
+fn other_amounts(rt: HostRuntime) {
+    play_all(&rt, rt.alloc(), SCENES)
 }

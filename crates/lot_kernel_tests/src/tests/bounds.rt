@@ -111,10 +111,12 @@ const LONG_NAMES: &[Step<'static>] = &[
     Step::Thread((1, "abcdefghijklmnor", Status::Ready, 3, 3, 0, 0)),
 ];
 
+const SCENES: &[Scene<'static>] = &[("long names", LARGEST, &[], &[LONG_NAMES])];
+
 #[test]
 fn names_of_sixteen_bytes(rt: HostRuntime) {
     assert!(rt; Name::new("abcdefghijklmnopq").is_none());
-    play(&rt, rt.alloc(), LONG_NAMES)
+    play_all(&rt, rt.alloc(), SCENES)
 }
 
 /// When the limit on threads is reached, `fundx` makes neither a thread nor a ticket.
@@ -129,7 +131,7 @@ const NO_MORE_THREADS: &[Step<'static>] = &[
 #[test]
 fn all_threads(rt: HostRuntime) {
     let alloc = rt.alloc();
-    let mut kernel = largest(&rt, alloc, 1);
-    make_threads(&rt, &mut kernel, alloc, 4096);
-    take_all(&rt, &mut kernel, NO_MORE_THREADS)
+    let mut kernel = kernel_of(&rt, alloc, LARGEST);
+    make_threads(&rt, alloc, &mut kernel, 4096);
+    take_all(&rt, "all threads", &mut kernel, NO_MORE_THREADS)
 }

@@ -42,15 +42,6 @@ const READY: &[Step<'static>] = &[
     Step::Idles(1, 0),
 ];
 
-#[test]
-fn kills_of_runners(rt: HostRuntime) {
-    let alloc = rt.alloc();
-    let threads: &[(u64, &str)] = &[(400, "a"), (100, "b")];
-    play_funded(&rt, alloc, threads, RUNNING);
-    play_funded(&rt, alloc, threads, ELSEWHERE);
-    play_funded(&rt, alloc, threads, READY)
-}
-
 /// A killed thread's ticket is inactive, so the other thread gets the whole value of their currency.
 const SHARED: &[Step<'static>] = &[
     Step::Gives("mkcur g", Reply::Currency(1)),
@@ -64,11 +55,6 @@ const SHARED: &[Step<'static>] = &[
     Step::Currency((1, "g", 1, 2, 1, 100)),
     Step::Thread((2, "b", Status::Ready, 100, 100, 0, 0)),
 ];
-
-#[test]
-fn kill_of_a_thread_of_a_currency(rt: HostRuntime) {
-    play(&rt, rt.alloc(), SHARED)
-}
 
 /// Thread `s` is killed while it serves `c`, and `d` waits for it to receive: `c` is Ready, with nothing delivered, and
 /// receives the call of `d`.
@@ -99,14 +85,6 @@ const CLIENT: &[Step<'static>] = &[
     Step::Refuses(1, Action::Reply(9), 1, TrapRefusal::NothingToReply),
 ];
 
-#[test]
-fn kills_of_servers_and_clients(rt: HostRuntime) {
-    let alloc = rt.alloc();
-    let threads: &[(u64, &str)] = &[(10, "s"), (20, "c"), (30, "d")];
-    play_funded(&rt, alloc, threads, SERVER);
-    play_funded(&rt, alloc, threads, CLIENT)
-}
-
 /// Thread `a` is killed after its call was queued before that of `b`: `c` receives that of `b`.
 const CALLER: &[Step<'static>] = &[
     Step::Wins(1, 0, (1, 0, 60), None),
@@ -130,14 +108,6 @@ const RECEIVER: &[Step<'static>] = &[
     Step::Traps(1, Action::Call(1, 5), 3, Outcome::ServedBy(2)),
     Step::Wins(1, 4999, (2, 4999, 5000), Some(5)),
 ];
-
-#[test]
-fn kills_at_ports(rt: HostRuntime) {
-    let alloc = rt.alloc();
-    let threads: &[(u64, &str)] = &[(10, "a"), (20, "b"), (30, "c")];
-    play_funded(&rt, alloc, threads, CALLER);
-    play_funded(&rt, alloc, threads, RECEIVER)
-}
 
 /// Thread `o` owns a mutex, for which `w` waits, and then `x`.
 const ONE_MUTEX: &[Step<'static>] = &[
@@ -186,16 +156,6 @@ const TWO_MUTEXES: &[Step<'static>] = &[
     Step::Traps(2, Action::Unlock(2, 0), 3, Outcome::Freed),
 ];
 
-#[test]
-fn kills_of_owners_and_waiters(rt: HostRuntime) {
-    let alloc = rt.alloc();
-    let threads: &[(u64, &str)] = &[(10, "o"), (20, "w"), (30, "x")];
-    let first = ONE_MUTEX;
-    play_both(&rt, alloc, threads, first, OWNER);
-    play_both(&rt, alloc, threads, first, WAITER);
-    play_funded(&rt, alloc, threads, TWO_MUTEXES)
-}
-
 /// A sleeper is killed, and can't be woken afterwards.
 const SLEEPER: &[Step<'static>] = &[
     Step::Wins(1, 0, (1, 0, 30), None),
@@ -205,11 +165,6 @@ const SLEEPER: &[Step<'static>] = &[
     Step::Thread((1, "a", Status::Dead, 0, 0, 1, 20)),
     Step::Wins(1, 29, (2, 9, 20), None),
 ];
-
-#[test]
-fn kill_of_a_sleeper(rt: HostRuntime) {
-    play_funded(&rt, rt.alloc(), &[(10, "a"), (20, "b")], SLEEPER)
-}
 
 /// A thread to kill must exist and not be dead. Neither base nor another currency is a thread.
 const REFUSED: &[Step<'static>] = &[
@@ -233,9 +188,40 @@ const NUMBERED: &[Step<'static>] = &[
     Step::Wins(1, 29, (1, 9, 10), None),
 ];
 
+/// Two threads.
+const RIVALS: &[(u64, &str)] = &[(400, "a"), (100, "b")];
+
+const SERVER_AND_CLIENTS: &[(u64, &str)] = &[(10, "s"), (20, "c"), (30, "d")];
+
+const THREE: &[(u64, &str)] = &[(10, "a"), (20, "b"), (30, "c")];
+
+const OWNER_AND_WAITERS: &[(u64, &str)] = &[(10, "o"), (20, "w"), (30, "x")];
+
+const TWO: &[(u64, &str)] = &[(10, "a"), (20, "b")];
+
+const SCENES: &[Scene<'static>] = &[
+    ("a runner", LARGEST, RIVALS, &[RUNNING]),
+    ("a runner beside another", LARGEST, RIVALS, &[ELSEWHERE]),
+    ("ready threads", LARGEST, RIVALS, &[READY]),
+    ("a thread of a currency", LARGEST, &[], &[SHARED]),
+    ("a server", LARGEST, SERVER_AND_CLIENTS, &[SERVER]),
+    ("a client", LARGEST, SERVER_AND_CLIENTS, &[CLIENT]),
+    ("a caller", LARGEST, THREE, &[CALLER]),
+    ("a receiver", LARGEST, THREE, &[RECEIVER]),
+    ("an owner", LARGEST, OWNER_AND_WAITERS, &[ONE_MUTEX, OWNER]),
+    ("a waiter", LARGEST, OWNER_AND_WAITERS, &[ONE_MUTEX, WAITER]),
+    (
+        "an owner of two mutexes",
+        LARGEST,
+        OWNER_AND_WAITERS,
+        &[TWO_MUTEXES],
+    ),
+    ("a sleeper", LARGEST, TWO, &[SLEEPER]),
+    ("refused kills", LARGEST, &[], &[REFUSED]),
+    ("kills by number", LARGEST, TWO, &[NUMBERED]),
+];
+
 #[test]
-fn refused_kills(rt: HostRuntime) {
-    let alloc = rt.alloc();
-    play(&rt, alloc, REFUSED);
-    play_funded(&rt, alloc, &[(10, "a"), (20, "b")], NUMBERED)
+fn kills(rt: HostRuntime) {
+    play_all(&rt, rt.alloc(), SCENES)
 }

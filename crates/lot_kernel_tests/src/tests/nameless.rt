@@ -1,16 +1,6 @@
 //! Threads without a name.
 use super::*;
 
-/// The sizes of a kernel of eight tickets, seven currencies and base, eight threads and one script.
-const EIGHT: Sizes = Sizes {
-    tickets: 8,
-    currencies: 7,
-    threads: 8,
-    scripts: 1,
-    quantum: 100,
-    ..Sizes::SMALLEST
-};
-
 /// Any number of threads may have no name; a currency must have one. No command can name such a thread: each means it
 /// by its number.
 const NAMELESS: &[Step<'static>] = &[
@@ -33,11 +23,6 @@ const NAMELESS: &[Step<'static>] = &[
     Step::Ticket((2, 5, "base", "", Target::Thread(2), true, 5)),
     Step::Wins(1, 14, (3, 14, 15), None),
 ];
-
-#[test]
-fn threads_without_a_name(rt: HostRuntime) {
-    play(&rt, rt.alloc(), NAMELESS)
-}
 
 /// Threads without a name are removed from among those whose names share one bucket of eight, which the kernel still
 /// finds.
@@ -88,13 +73,21 @@ const GIVEN_AGAIN: &[Step<'static>] = &[
     Step::Ticket((1, 1, "base", "d", Target::Thread(3), true, 1)),
 ];
 
+const SCENES: &[Scene<'static>] = &[
+    ("threads without a name", LARGEST, &[], &[NAMELESS]),
+    ("removed ones", EIGHT, &[], &[REMOVED]),
+    (
+        "numbers given again",
+        Sizes {
+            reuse: true,
+            ..EIGHT
+        },
+        &[],
+        &[GIVEN_AGAIN],
+    ),
+];
+
 #[test]
-fn removal_of_threads_without_a_name(rt: HostRuntime) {
-    let alloc = rt.alloc();
-    play_sized(&rt, alloc, EIGHT, REMOVED);
-    let again = Sizes {
-        reuse: true,
-        ..EIGHT
-    };
-    play_sized(&rt, alloc, again, GIVEN_AGAIN)
+fn threads_without_a_name(rt: HostRuntime) {
+    play_all(&rt, rt.alloc(), SCENES)
 }

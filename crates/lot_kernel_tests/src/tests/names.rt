@@ -24,11 +24,6 @@ const GIVEN_AGAIN: &[Step<'static>] = &[
     Step::Thread((2, "x", Status::Ready, 0, 0, 0, 0)),
 ];
 
-#[test]
-fn names_given_again(rt: HostRuntime) {
-    play(&rt, rt.alloc(), GIVEN_AGAIN)
-}
-
 /// Names of currencies in one bucket of eight, of which the second, the first and the last are removed.
 const CURRENCIES_OF_ONE_BUCKET: &[Step<'static>] = &[
     Step::Gives("mkcur a", Reply::Currency(1)),
@@ -69,30 +64,6 @@ const THREADS_OF_ONE_BUCKET: &[Step<'static>] = &[
     Step::Gives("fund 1 d", Reply::Done),
 ];
 
-/// Takes the steps in a new kernel with room for eight currencies, base among them, and for eight threads.
-fn play_eight(rt: &impl Abort, alloc: Global, steps: &[Step<'_>]) {
-    let mut kernel = small(rt, alloc, 8, 7, 8);
-    take_all(rt, &mut kernel, steps)
-}
-
-#[test]
-fn names_of_one_bucket(rt: HostRuntime) {
-    let alloc = rt.alloc();
-    play_eight(&rt, alloc, CURRENCIES_OF_ONE_BUCKET);
-    play_eight(&rt, alloc, THREADS_OF_ONE_BUCKET)
-}
-
-#[test]
-fn one_name_for_each_currency(rt: HostRuntime) {
-    let mut kernel = largest(&rt, rt.alloc(), 1);
-    for number in 1..=4096 {
-        check_answer(&rt, &mut kernel, "mkcur x", Reply::Currency(number));
-        check_answer(&rt, &mut kernel, "rmcur x", Reply::Done);
-    }
-    let full = Reply::Refused(Refusal::Full);
-    check_answer(&rt, &mut kernel, "mkcur x", full)
-}
-
 /// Names that aren't a letter a to z, followed by letters, digits, `_` or `-`.
 const REFUSED: &[Step<'static>] = &[
     Step::Gives("mkthr Job#1 1", Reply::Refused(Refusal::BadName)),
@@ -130,17 +101,51 @@ const PLAIN: &[Step<'static>] = &[
     Step::Gives("fund 1 job#1", Reply::Done),
 ];
 
+const SCENES: &[Scene<'static>] = &[
+    ("names given again", LARGEST, &[], &[GIVEN_AGAIN]),
+    (
+        "currencies of one bucket",
+        EIGHT,
+        &[],
+        &[CURRENCIES_OF_ONE_BUCKET],
+    ),
+    (
+        "threads of one bucket",
+        EIGHT,
+        &[],
+        &[THREADS_OF_ONE_BUCKET],
+    ),
+    ("refused names", LARGEST, &[], &[REFUSED]),
+    (
+        "plain names",
+        Sizes {
+            currencies: 8,
+            quantum: Sizes::SMALLEST.quantum,
+            plain_names: true,
+            ..EIGHT
+        },
+        &[],
+        &[PLAIN],
+    ),
+];
+
 #[test]
-fn plain_names(rt: HostRuntime) {
-    let alloc = rt.alloc();
-    play(&rt, alloc, REFUSED);
-    let sizes = Sizes {
-        tickets: 8,
-        currencies: 8,
-        threads: 8,
-        scripts: 1,
-        plain_names: true,
-        ..Sizes::SMALLEST
-    };
-    play_sized(&rt, alloc, sizes, PLAIN)
+fn names(rt: HostRuntime) {
+    play_all(&rt, rt.alloc(), SCENES)
+}
+
+/// Makes a currency, which gets this number, and removes it.
+fn make_and_remove(rt: &impl Abort, kernel: &mut Kernel, number: u32) {
+    check_same(rt, &answer(rt, kernel, "mkcur x"), &Reply::Currency(number));
+    check_same(rt, &answer(rt, kernel, "rmcur x"), &Reply::Done);
+}
+
+#[test]
+fn one_name_for_each_currency(rt: HostRuntime) {
+    let mut kernel = kernel_of(&rt, rt.alloc(), LARGEST);
+    for number in 1..=4096 {
+        make_and_remove(&rt, &mut kernel, number);
+    }
+    let full = Reply::Refused(Refusal::Full);
+    check_same(&rt, &answer(&rt, &mut kernel, "mkcur x"), &full)
 }

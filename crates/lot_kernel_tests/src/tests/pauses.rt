@@ -19,11 +19,6 @@ const SLEEPER: &[Step<'static>] = &[
     Step::Wins(1, 1999, (1, 1999, 2000), None),
 ];
 
-#[test]
-fn sleep_and_wake(rt: HostRuntime) {
-    play(&rt, rt.alloc(), SLEEPER)
-}
-
 /// Thread `a` sleeps as the owner of a mutex for which `b` waits: neither competes, though `b` lends to `a`. A wake of
 /// a waiting thread is refused, and so is that of a dead one.
 const SLEEPING_OWNER: &[Step<'static>] = &[
@@ -40,11 +35,6 @@ const SLEEPING_OWNER: &[Step<'static>] = &[
     Step::Pauses(Pause::Wake(1), Reply::Refused(Refusal::NotAsleep)),
     Step::Idles(1, 0),
 ];
-
-#[test]
-fn sleep_of_an_owner(rt: HostRuntime) {
-    play_funded(&rt, rt.alloc(), &[(10, "a"), (20, "b")], SLEEPING_OWNER)
-}
 
 /// A thread is preempted within its quantum: the ticks that it ran count, and it gets no compensation.
 const PREEMPTED: &[Step<'static>] = &[
@@ -83,13 +73,6 @@ const LATE: &[Step<'static>] = &[
     Step::Wins(1, 7, (1, 0, 1), None),
 ];
 
-#[test]
-fn quanta_that_end_early_or_late(rt: HostRuntime) {
-    let alloc = rt.alloc();
-    play(&rt, alloc, PREEMPTED);
-    play(&rt, alloc, LATE)
-}
-
 /// In a kernel without compensation thread `a` yields after a fifth of its quantum, sleeps and wakes, and its quantum
 /// ends late: it always weighs its value.
 const UNCOMPENSATED: &[Step<'static>] = &[
@@ -105,15 +88,32 @@ const UNCOMPENSATED: &[Step<'static>] = &[
     Step::Thread((1, "a", Status::Ready, 400, 400, 3, 440)),
 ];
 
+const SCENES: &[Scene<'static>] = &[
+    ("sleep and wake", LARGEST, &[], &[SLEEPER]),
+    (
+        "sleep of an owner",
+        LARGEST,
+        &[(10, "a"), (20, "b")],
+        &[SLEEPING_OWNER],
+    ),
+    ("preempted", LARGEST, &[], &[PREEMPTED]),
+    ("late", LARGEST, &[], &[LATE]),
+    (
+        "without compensation",
+        Sizes {
+            tickets: 1,
+            threads: 1,
+            scripts: 1,
+            quantum: 100,
+            without_compensation: true,
+            ..Sizes::SMALLEST
+        },
+        &[],
+        &[UNCOMPENSATED],
+    ),
+];
+
 #[test]
-fn without_compensation(rt: HostRuntime) {
-    let sizes = Sizes {
-        tickets: 1,
-        threads: 1,
-        scripts: 1,
-        quantum: 100,
-        without_compensation: true,
-        ..Sizes::SMALLEST
-    };
-    play_sized(&rt, rt.alloc(), sizes, UNCOMPENSATED)
+fn pauses(rt: HostRuntime) {
+    play_all(&rt, rt.alloc(), SCENES)
 }

@@ -31,20 +31,12 @@ const FUNDED_REMOVAL: &[Step<'static>] = &[
     Step::Wins(1, 7, (2, 7, 10), None),
 ];
 
-/// Compares the scripts of threads.
-fn check_scripts(rt: &impl Abort, kernel: &Kernel, scripts: &[(u32, Option<u32>)]) {
-    for (thread, script) in scripts {
-        let found = kernel.script_of(ThreadNumber { number: *thread });
-        check_same_at(rt, thread, &found, script);
-    }
-}
-
-#[test]
-fn removal_of_a_funded_thread(rt: HostRuntime) {
-    let mut kernel = largest(&rt, rt.alloc(), 1);
-    take_all(&rt, &mut kernel, FUNDED_REMOVAL);
-    check_scripts(&rt, &kernel, &[(1, None), (2, Some(1)), (3, None)])
-}
+/// Only the new thread has a script.
+const SCRIPTS: &[Step<'static>] = &[
+    Step::Script(1, None),
+    Step::Script(2, Some(1)),
+    Step::Script(3, None),
+];
 
 /// Thread `o` ends as the owner of a mutex, for which `w` waits.
 const OWNER: &[Step<'static>] = &[
@@ -77,13 +69,6 @@ const SERVER: &[Step<'static>] = &[
     Step::Idles(1, 0),
 ];
 
-#[test]
-fn removal_of_who_is_lent_to(rt: HostRuntime) {
-    let alloc = rt.alloc();
-    play_funded(&rt, alloc, &[(10, "o"), (20, "w")], OWNER);
-    play_funded(&rt, alloc, &[(10, "s"), (20, "c")], SERVER)
-}
-
 /// Of three threads the one in the middle is removed: the others keep their names, numbers and tickets.
 const MIDDLE: &[Step<'static>] = &[
     Step::Wins(1, 2, (2, 2, 7), None),
@@ -99,11 +84,6 @@ const MIDDLE: &[Step<'static>] = &[
     Step::Wins(1, 4, (3, 4, 5), None),
 ];
 
-#[test]
-fn removal_from_the_middle(rt: HostRuntime) {
-    play_funded(&rt, rt.alloc(), &[(1, "a"), (2, "b"), (4, "c")], MIDDLE)
-}
-
 /// A removed thread still counts towards the limit, so no other gets its place, though its name is free.
 const STILL_FULL: &[Step<'static>] = &[
     Step::Gives("fundx 1 base a 1", FIRST_FUNDED),
@@ -117,7 +97,20 @@ const STILL_FULL: &[Step<'static>] = &[
     Step::Idles(1, 0),
 ];
 
+const SCENES: &[Scene<'static>] = &[
+    ("a funded thread", LARGEST, &[], &[FUNDED_REMOVAL, SCRIPTS]),
+    ("an owner", LARGEST, &[(10, "o"), (20, "w")], &[OWNER]),
+    ("a server", LARGEST, &[(10, "s"), (20, "c")], &[SERVER]),
+    (
+        "from the middle",
+        LARGEST,
+        &[(1, "a"), (2, "b"), (4, "c")],
+        &[MIDDLE],
+    ),
+    ("no room", SMALL, &[], &[STILL_FULL]),
+];
+
 #[test]
-fn removal_leaves_no_room(rt: HostRuntime) {
-    play_small(&rt, rt.alloc(), (2, 1, 1), STILL_FULL)
+fn removals(rt: HostRuntime) {
+    play_all(&rt, rt.alloc(), SCENES)
 }

@@ -18,7 +18,7 @@ pub(crate) fn check_same_at<T: PartialEq + Debug>(
     assert_eq!(rt; *found, *wanted, "at {at:?}");
 }
 
-/// Ends the test unless a step's result is the row's.
-pub(crate) fn check_step(rt: &impl Abort, step: usize, is_so: bool) {
-    assert!(rt; is_so, "step {step}");
+/// Ends the test unless the result of a scene's step is the row's.
+pub(crate) fn check_step(rt: &impl Abort, at: &str, step: usize, is_so: bool) {
+    assert!(rt; is_so, "{at}, step {step}");
 }

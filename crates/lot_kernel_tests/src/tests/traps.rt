@@ -1,84 +1,49 @@
 //! Yields, ports, mutexes and exits.
 use super::*;
 use lot_kept::Stack;
-use lot_kernel::MutexNumber;
 
-/// Makes the events in a kernel with thread `a`, which has this much base, and compares the replies.
-fn run_funded(
-    rt: &impl Abort,
-    alloc: Global,
-    amount: u64,
-    events: &[Event],
-    replies: &[Reply],
-) -> Kernel {
-    let mut kernel = largest(rt, alloc, 1);
-    fund(rt, &mut kernel, &[(amount, "a")]);
-    check_run(rt, &mut kernel, events, replies);
-    kernel
-}
-
-/// A draw, a yield after this many ticks of work, and the largest draw of this total, by a thread with this much base.
-fn check_compensation(rt: &impl Abort, alloc: Global, (amount, ran, total): (u64, u32, u64)) {
-    let yielded = trapped_after(1, ran, Outcome::Yielded);
-    let last = total.saturating_sub(1);
-    let mut kernel = run_funded(
-        rt,
-        alloc,
-        amount,
-        &[
-            Event::Draw(1, 0),
-            Event::Trap(1, ran, Action::Yield),
-            Event::Draw(1, u128::from(last)),
-        ],
-        &[
-            won(1, 0, u128::from(amount), None),
-            yielded,
-            won(1, u128::from(last), u128::from(total), None),
-        ],
-    );
-    check_compensated(rt, &mut kernel, amount, u64::from(ran).saturating_add(1))
-}
-
-/// Compares the thread that won a second time, after this many ticks, with the expected row.
-fn check_compensated(rt: &impl Abort, kernel: &mut Kernel, amount: u64, ticks: u64) {
-    let row = thread_row(rt, (1, "a", STARTED, amount, u128::from(amount), 2, ticks));
-    check_thread(rt, kernel, 1, Some(row));
-}
-
-#[test]
-fn compensation(rt: HostRuntime) {
-    // The base that a thread has, the ticks of work before it yields, and the total of the next draw.
-    for row in [(400, 19, 2000), (7, 2, 233), (400, 98, 404), (400, 99, 400)] {
-        check_compensation(&rt, rt.alloc(), row);
-    }
-}
-
-const EXPIRY: [Event; 3] = [Event::Draw(1, 0), Event::Expire(1), Event::Draw(1, 0)];
-
-const EXPIRED: Reply = Reply::Expired {
-    thread: 1,
-    ticks: 100,
-};
-
-#[test]
-fn an_expiry_gives_no_compensation(rt: HostRuntime) {
-    let drawn = won(1, 0, 400, None);
-    run_funded(&rt, rt.alloc(), 400, &EXPIRY, &[drawn, EXPIRED, drawn]);
-}
-
-const TWO_PROCESSORS: [Event; 4] = [
-    Event::Draw(1, 4),
-    Event::Draw(2, 0),
-    Event::Expire(1),
-    Event::Draw(2, 3),
+/// A draw, a yield after some ticks of work, the next draw, and the thread that has won a second time.
+const YIELDED_AFTER_20: &[Step<'static>] = &[
+    Step::Wins(1, 0, (1, 0, 400), None),
+    Step::Works(1, 19, Action::Yield, 1, Outcome::Yielded),
+    Step::Wins(1, 1999, (1, 1999, 2000), None),
+    Step::Thread((1, "a", STARTED, 400, 400, 2, 20)),
 ];
 
-#[test]
-fn two_processors(rt: HostRuntime) {
-    let (first, last) = (won(1, 4, 10, None), won(1, 3, 10, None));
-    let replies = [first, Reply::Idle, EXPIRED, last];
-    run_funded(&rt, rt.alloc(), 10, &TWO_PROCESSORS, &replies);
-}
+const YIELDED_AFTER_3: &[Step<'static>] = &[
+    Step::Wins(1, 0, (1, 0, 7), None),
+    Step::Works(1, 2, Action::Yield, 1, Outcome::Yielded),
+    Step::Wins(1, 232, (1, 232, 233), None),
+    Step::Thread((1, "a", STARTED, 7, 7, 2, 3)),
+];
+
+const YIELDED_AFTER_99: &[Step<'static>] = &[
+    Step::Wins(1, 0, (1, 0, 400), None),
+    Step::Works(1, 98, Action::Yield, 1, Outcome::Yielded),
+    Step::Wins(1, 403, (1, 403, 404), None),
+    Step::Thread((1, "a", STARTED, 400, 400, 2, 99)),
+];
+
+const YIELDED_AT_THE_END: &[Step<'static>] = &[
+    Step::Wins(1, 0, (1, 0, 400), None),
+    Step::Works(1, 99, Action::Yield, 1, Outcome::Yielded),
+    Step::Wins(1, 399, (1, 399, 400), None),
+    Step::Thread((1, "a", STARTED, 400, 400, 2, 100)),
+];
+
+/// A quantum that expires gives no compensation.
+const EXPIRED: &[Step<'static>] = &[
+    Step::Wins(1, 0, (1, 0, 400), None),
+    Step::Expires(Pause::Expire(1), 1, 100),
+    Step::Wins(1, 0, (1, 0, 400), None),
+];
+
+const TWO_PROCESSORS: &[Step<'static>] = &[
+    Step::Wins(1, 4, (1, 4, 10), None),
+    Step::Idles(2, 0),
+    Step::Expires(Pause::Expire(1), 1, 100),
+    Step::Wins(2, 3, (1, 3, 10), None),
+];
 
 const WAITING_SERVER: &[Step<'static>] = &[
     Step::Gives("mkthr v 1", Reply::Thread(1)),
@@ -97,11 +62,6 @@ const WAITING_SERVER: &[Step<'static>] = &[
     Step::Value(1, 0),
     Step::Value(2, 400),
 ];
-
-#[test]
-fn a_call_to_a_server_that_waits(rt: HostRuntime) {
-    play(&rt, rt.alloc(), WAITING_SERVER)
-}
 
 const QUEUED_CALL: &[Step<'static>] = &[
     Step::Gives("mkcur g", Reply::Currency(1)),
@@ -123,11 +83,6 @@ const QUEUED_CALL: &[Step<'static>] = &[
     Step::Wins(2, 0, (2, 0, 150), None),
 ];
 
-#[test]
-fn a_queued_call(rt: HostRuntime) {
-    play(&rt, rt.alloc(), QUEUED_CALL)
-}
-
 // The client's number is delivered when the server wins next.
 const LENDS: &[Step<'static>] = &[
     Step::Wins(1, 400, (3, 400, 450), None),
@@ -141,11 +96,6 @@ const LENDS: &[Step<'static>] = &[
     Step::Thread((2, "o", Status::Served(3), 400, 20000, 1, 2)),
     Step::Thread((3, "v", Status::Ready, 450, 45000, 1, 1)),
 ];
-
-#[test]
-fn a_chain_of_lends(rt: HostRuntime) {
-    play_funded(&rt, rt.alloc(), &[(300, "w"), (100, "o"), (50, "v")], LENDS)
-}
 
 /// Of three threads with 50, 100 and 300 the first owns mutex 1 and runs, and the others wait for it.
 const CONTENDED: &[Step<'static>] = &[
@@ -172,15 +122,6 @@ const PASSED_TO_THIRD: &[Step<'static>] = &[
     Step::Thread((3, "c", Status::Ready, 400, 40000, 1, 1)),
 ];
 
-#[test]
-fn an_unlock_passes_by_lottery(rt: HostRuntime) {
-    let alloc = rt.alloc();
-    let threads: &[(u64, &str)] = &[(50, "a"), (100, "b"), (300, "c")];
-    let first = CONTENDED;
-    play_both(&rt, alloc, threads, first, PASSED_TO_SECOND);
-    play_both(&rt, alloc, threads, first, PASSED_TO_THIRD)
-}
-
 const WORTHLESS_WAITERS: &[Step<'static>] = &[
     Step::Wins(1, 0, (1, 0, 60), None),
     Step::Traps(1, Action::Lock(1), 1, Outcome::Locked),
@@ -195,16 +136,6 @@ const WORTHLESS_WAITERS: &[Step<'static>] = &[
     Step::Passes(1, (1, 5), 1, 2, None),
     Step::Wins(1, 0, (1, 0, 1000), None),
 ];
-
-#[test]
-fn waiters_worth_nothing(rt: HostRuntime) {
-    play_funded(
-        &rt,
-        rt.alloc(),
-        &[(10, "a"), (20, "b"), (30, "c")],
-        WORTHLESS_WAITERS,
-    )
-}
 
 /// On processor 2, after 5 ticks.
 const USED_5: Status = Status::Running {
@@ -225,38 +156,26 @@ const LOCK_CYCLE: &[Step<'static>] = &[
     Step::Thread((2, "b", USED_5, 20, 20, 1, 5)),
 ];
 
-#[test]
-fn a_lock_that_would_make_a_cycle(rt: HostRuntime) {
-    play_funded(&rt, rt.alloc(), &[(10, "a"), (10, "b")], LOCK_CYCLE)
-}
-
-const QUANTUM: [Event; 6] = [
-    Event::Draw(1, 0),
-    Event::Trap(1, 100, Action::Lock(1)),
-    Event::Trap(1, 99, Action::Lock(1)),
-    Event::Draw(1, 0),
-    Event::Trap(1, 9, Action::Unlock(1, 0)),
-    Event::Expire(1),
+/// The end of a quantum.
+const QUANTUM: &[Step<'static>] = &[
+    Step::Wins(1, 0, (1, 0, 10), None),
+    Step::Pauses(
+        Pause::Trap(1, 100, Action::Lock(1)),
+        Reply::Refused(Refusal::BadTicks),
+    ),
+    Step::Pauses(
+        Pause::Trap(1, 99, Action::Lock(1)),
+        Reply::Trapped {
+            thread: 1,
+            ticks: 100,
+            outcome: Outcome::Locked,
+            ends: true,
+        },
+    ),
+    Step::Wins(1, 0, (1, 0, 10), None),
+    Step::Works(1, 9, Action::Unlock(1, 0), 1, Outcome::Freed),
+    Step::Expires(Pause::Expire(1), 1, 90),
 ];
-
-#[test]
-fn the_end_of_a_quantum(rt: HostRuntime) {
-    let drawn = won(1, 0, 10, None);
-    let last = Reply::Trapped {
-        thread: 1,
-        ticks: 100,
-        outcome: Outcome::Locked,
-        ends: true,
-    };
-    let freed = trapped_after(1, 9, Outcome::Freed);
-    let expired = Reply::Expired {
-        thread: 1,
-        ticks: 90,
-    };
-    let refused = Reply::Refused(Refusal::BadTicks);
-    let replies = [drawn, refused, last, drawn, freed, expired];
-    run_funded(&rt, rt.alloc(), 10, &QUANTUM, &replies);
-}
 
 const SERVINGS: &[Step<'static>] = &[
     Step::Wins(1, 0, (1, 0, 60), None),
@@ -288,17 +207,6 @@ const SERVINGS: &[Step<'static>] = &[
     Step::Wins(1, 1499, (1, 1499, 4500), Some(4)),
     Step::Wins(2, 0, (3, 0, 3000), Some(9)),
 ];
-
-// A server replies and takes the next call in one trap, or waits for it; without a client the trap is refused.
-#[test]
-fn a_server_that_serves(rt: HostRuntime) {
-    play_funded(
-        &rt,
-        rt.alloc(),
-        &[(10, "v"), (20, "c"), (30, "d")],
-        SERVINGS,
-    )
-}
 
 /// On processor 1, after 2 ticks.
 const USED_2: Status = Status::Running {
@@ -333,14 +241,6 @@ const UNKNOWN_OBJECTS: &[Step<'static>] = &[
     Step::Thread((1, "a", USED_7, 10, 10, 1, 7)),
 ];
 
-#[test]
-fn refused_traps_cost_their_ticks(rt: HostRuntime) {
-    let alloc = rt.alloc();
-    let threads: &[(u64, &str)] = &[(10, "a")];
-    play_funded(&rt, alloc, threads, REFUSED_TRAPS);
-    play_funded(&rt, alloc, threads, UNKNOWN_OBJECTS)
-}
-
 const TWO_CLIENTS: &[Step<'static>] = &[
     Step::Wins(1, 0, (1, 0, 60), None),
     Step::Traps(1, Action::Receive(1), 1, Outcome::Waits),
@@ -360,84 +260,28 @@ const TWO_CLIENTS: &[Step<'static>] = &[
     Step::Wins(1, 250, (2, 250, 5250), Some(1)),
 ];
 
-#[test]
-fn a_server_of_two_clients(rt: HostRuntime) {
-    play_funded(
-        &rt,
-        rt.alloc(),
-        &[(10, "v"), (20, "c"), (30, "d")],
-        TWO_CLIENTS,
-    )
-}
-
 /// One thread locks a mutex, and the two others wait for it, the last first.
-const TWO_WAITERS: [Event; 7] = [
-    Event::Draw(1, 0),
-    Event::Trap(1, 0, Action::Lock(1)),
-    Event::Trap(1, 0, Action::Yield),
-    Event::Draw(1, 2800),
-    Event::Trap(1, 0, Action::Lock(1)),
-    Event::Draw(1, 7500),
-    Event::Trap(1, 0, Action::Lock(1)),
+const TWO_WAITERS: &[Step<'static>] = &[
+    Step::Wins(1, 0, (1, 0, 450), None),
+    Step::Traps(1, Action::Lock(1), 1, Outcome::Locked),
+    Step::Traps(1, Action::Yield, 1, Outcome::Yielded),
+    Step::Wins(1, 2800, (3, 2800, 2900), None),
+    Step::Traps(1, Action::Lock(1), 3, Outcome::Waits),
+    Step::Wins(1, 7500, (2, 7500, 7800), None),
+    Step::Traps(1, Action::Lock(1), 2, Outcome::Waits),
 ];
 
-/// Compares the threads that wait for the mutex.
-fn check_waiters(rt: &impl Abort, alloc: Global, kernel: &Kernel, mutex: u32, wanted: &[u32]) {
-    let room = kernel.limits().threads as usize;
-    let mut waiters = Stack::new(alloc, room).expect(rt, "memory");
-    kernel.list_waiters(MutexNumber { number: mutex }, &mut waiters);
-    check_same(rt, &waiters.as_slice(), &wanted);
-}
-
-#[test]
-fn waiters_stand_in_order_of_waiting(rt: HostRuntime) {
-    let alloc = rt.alloc();
-    let kernel = kernel_with_waiters(&rt, alloc);
-    check_waiters(&rt, alloc, &kernel, 1, &[3, 2]);
-    check_waiters(&rt, alloc, &kernel, 2, &[]);
-    check_waiters(&rt, alloc, &kernel, 300, &[]);
-}
-
-/// The kernel after these events, and three funded threads.
-fn kernel_with_waiters(rt: &impl Abort, alloc: Global) -> Kernel {
-    let mut kernel = largest(rt, alloc, 1);
-    fund(rt, &mut kernel, &[(50, "a"), (300, "b"), (100, "c")]);
-    for event in &TWO_WAITERS {
-        kernel.event(event);
-    }
-    kernel
-}
-
-/// Compares the owners of mutexes.
-fn check_owners(rt: &impl Abort, kernel: &Kernel, owners: &[(u32, Option<u32>)]) {
-    for (mutex, owner) in owners {
-        let found = kernel.owner(MutexNumber { number: *mutex });
-        check_same_at(rt, mutex, &found, owner);
-    }
-}
-
-#[test]
-fn owners_of_mutexes(rt: HostRuntime) {
-    let kernel = kernel_with_waiters(&rt, rt.alloc());
-    let owners = &[(0, None), (1, Some(1)), (2, None), (300, None)];
-    check_owners(&rt, &kernel, owners)
-}
-
-/// Compares the ticks of the quanta for which threads are compensated.
-fn check_compensations(rt: &impl Abort, kernel: &Kernel, threads: &[(u32, Option<u32>)]) {
-    for (thread, used) in threads {
-        let found = kernel.compensation(ThreadNumber { number: *thread });
-        check_same_at(rt, thread, &found, used);
-    }
-}
-
-// Thread 1 locked and yielded, and so used two ticks; the others blocked after one.
-#[test]
-fn compensations_of_threads(rt: HostRuntime) {
-    let kernel = kernel_with_waiters(&rt, rt.alloc());
-    let threads = &[(0, None), (1, Some(2)), (2, Some(1)), (4, None)];
-    check_compensations(&rt, &kernel, threads)
-}
+/// Thread 1 locked and yielded, and so used two ticks; the others blocked after one.
+const OWNERS_AND_COMPENSATIONS: &[Step<'static>] = &[
+    Step::Owner(0, None),
+    Step::Owner(1, Some(1)),
+    Step::Owner(2, None),
+    Step::Owner(300, None),
+    Step::Compensation(0, None),
+    Step::Compensation(1, Some(2)),
+    Step::Compensation(2, Some(1)),
+    Step::Compensation(4, None),
+];
 
 /// In a kernel without lending `l` owns a mutex for which `h` waits, and is drawn on its own funding alone: thread `m`
 /// wins before it. The mutex then passes to `h` without a lottery.
@@ -474,32 +318,170 @@ const UNLENT: &[Step<'static>] = &[
     Step::Gives("rmthr c", Reply::Refused(Refusal::InUse)),
 ];
 
-/// Takes the steps in a new kernel without lending, with threads of these names and this much base each.
-fn play_unlent(rt: &impl Abort, alloc: Global, threads: &[(u64, &str)], steps: &[Step<'_>]) {
-    let sizes = Sizes {
-        tickets: 4,
-        threads: 4,
-        ports: 1,
-        mutexes: 2,
-        processors: 2,
-        scripts: 1,
-        quantum: 100,
-        without_lending: true,
-        ..Sizes::SMALLEST
-    };
-    let mut kernel = kernel_of(rt, alloc, sizes);
-    fund(rt, &mut kernel, threads);
-    take_all(rt, &mut kernel, steps)
+/// The sizes of a kernel without lending.
+const WITHOUT_LENDING: Sizes = Sizes {
+    tickets: 4,
+    threads: 4,
+    ports: 1,
+    mutexes: 2,
+    processors: 2,
+    scripts: 1,
+    quantum: 100,
+    without_lending: true,
+    ..Sizes::SMALLEST
+};
+
+const OF_400: &[(u64, &str)] = &[(400, "a")];
+
+const OF_10: &[(u64, &str)] = &[(10, "a")];
+
+const CONTENDERS: &[(u64, &str)] = &[(50, "a"), (100, "b"), (300, "c")];
+
+const WAITERS: &[(u64, &str)] = &[(50, "a"), (300, "b"), (100, "c")];
+
+const SERVER_AND_CLIENTS: &[(u64, &str)] = &[(10, "v"), (20, "c"), (30, "d")];
+
+const QUANTUM_SCENES: &[Scene<'static>] = &[
+    (
+        "a yield after 20 ticks",
+        LARGEST,
+        OF_400,
+        &[YIELDED_AFTER_20],
+    ),
+    (
+        "a yield after 3 ticks",
+        LARGEST,
+        &[(7, "a")],
+        &[YIELDED_AFTER_3],
+    ),
+    (
+        "a yield after 99 ticks",
+        LARGEST,
+        OF_400,
+        &[YIELDED_AFTER_99],
+    ),
+    ("a yield at the end", LARGEST, OF_400, &[YIELDED_AT_THE_END]),
+    ("an expiry", LARGEST, OF_400, &[EXPIRED]),
+];
+
+#[test]
+fn quanta(rt: HostRuntime) {
+    play_all(&rt, rt.alloc(), QUANTUM_SCENES)
 }
+
+const CALL_SCENES: &[Scene<'static>] = &[
+    ("two processors", LARGEST, OF_10, &[TWO_PROCESSORS]),
+    ("a server that waits", LARGEST, &[], &[WAITING_SERVER]),
+    ("a queued call", LARGEST, &[], &[QUEUED_CALL]),
+    (
+        "a chain of lends",
+        LARGEST,
+        &[(300, "w"), (100, "o"), (50, "v")],
+        &[LENDS],
+    ),
+];
+
+#[test]
+fn calls(rt: HostRuntime) {
+    play_all(&rt, rt.alloc(), CALL_SCENES)
+}
+
+const MUTEX_SCENES: &[Scene<'static>] = &[
+    (
+        "an unlock to the second",
+        LARGEST,
+        CONTENDERS,
+        &[CONTENDED, PASSED_TO_SECOND],
+    ),
+    (
+        "an unlock to the third",
+        LARGEST,
+        CONTENDERS,
+        &[CONTENDED, PASSED_TO_THIRD],
+    ),
+    (
+        "waiters worth nothing",
+        LARGEST,
+        &[(10, "a"), (20, "b"), (30, "c")],
+        &[WORTHLESS_WAITERS],
+    ),
+    (
+        "a cycle of locks",
+        LARGEST,
+        &[(10, "a"), (10, "b")],
+        &[LOCK_CYCLE],
+    ),
+    ("the end of a quantum", LARGEST, OF_10, &[QUANTUM]),
+];
+
+#[test]
+fn locks_and_unlocks(rt: HostRuntime) {
+    play_all(&rt, rt.alloc(), MUTEX_SCENES)
+}
+
+const SERVER_SCENES: &[Scene<'static>] = &[
+    (
+        "a server that serves",
+        LARGEST,
+        SERVER_AND_CLIENTS,
+        &[SERVINGS],
+    ),
+    ("refused traps", LARGEST, OF_10, &[REFUSED_TRAPS]),
+    ("unknown objects", LARGEST, OF_10, &[UNKNOWN_OBJECTS]),
+    (
+        "a server of two clients",
+        LARGEST,
+        SERVER_AND_CLIENTS,
+        &[TWO_CLIENTS],
+    ),
+    (
+        "owners and compensations",
+        LARGEST,
+        WAITERS,
+        &[TWO_WAITERS, OWNERS_AND_COMPENSATIONS],
+    ),
+];
+
+#[test]
+fn servers_and_refusals(rt: HostRuntime) {
+    play_all(&rt, rt.alloc(), SERVER_SCENES)
+}
+
+const UNLENT_SCENES: &[Scene<'static>] = &[
+    (
+        "an inversion without lending",
+        WITHOUT_LENDING,
+        &[(1, "l"), (99, "h"), (100, "m")],
+        &[INVERTED],
+    ),
+    (
+        "cycles without lending",
+        WITHOUT_LENDING,
+        &[(10, "a"), (10, "b"), (10, "c"), (10, "d")],
+        &[UNLENT],
+    ),
+];
 
 #[test]
 fn without_lending(rt: HostRuntime) {
+    play_all(&rt, rt.alloc(), UNLENT_SCENES)
+}
+
+/// Compares the threads that wait for the mutex.
+fn check_waiters(rt: &impl Abort, alloc: Global, kernel: &Kernel, mutex: u32, wanted: &[u32]) {
+    let room = kernel.limits().threads as usize;
+    let mut waiters = Stack::new(alloc, room).expect(rt, "memory");
+    kernel.list_waiters(MutexNumber { number: mutex }, &mut waiters);
+    check_same_at(rt, &mutex, &waiters.as_slice(), &wanted);
+}
+
+#[test]
+fn waiters_stand_in_order_of_waiting(rt: HostRuntime) {
     let alloc = rt.alloc();
-    play_unlent(&rt, alloc, &[(1, "l"), (99, "h"), (100, "m")], INVERTED);
-    play_unlent(
-        &rt,
-        alloc,
-        &[(10, "a"), (10, "b"), (10, "c"), (10, "d")],
-        UNLENT,
-    )
+    let mut kernel = kernel_of(&rt, alloc, LARGEST);
+    fund(&rt, alloc, &mut kernel, WAITERS);
+    take_all(&rt, "two waiters", &mut kernel, TWO_WAITERS);
+    check_waiters(&rt, alloc, &kernel, 1, &[3, 2]);
+    check_waiters(&rt, alloc, &kernel, 2, &[]);
+    check_waiters(&rt, alloc, &kernel, 300, &[]);
 }

@@ -14,17 +14,12 @@ fn check_text(rt: &impl Abort, alloc: Global, fault: &impl Display, text: &str) 
 }
 
 #[test]
-fn turn_faults(rt: HostRuntime) {
+fn texts_of_faults(rt: HostRuntime) {
     let alloc = rt.alloc();
     let stale = "the slice isn't that of the actor's work";
     check_text(&rt, alloc, &TurnFault::Stale(None), stale);
     check_text(&rt, alloc, &TurnFault::Ended, "no command is left");
-    check_text(&rt, alloc, &TurnFault::HistoryFull, "the history is full")
-}
-
-#[test]
-fn play_faults(rt: HostRuntime) {
-    let alloc = rt.alloc();
+    check_text(&rt, alloc, &TurnFault::HistoryFull, "the history is full");
     check_text(&rt, alloc, &PlayFault::Memory, "out of memory");
     check_text(&rt, alloc, &PlayFault::Read, "the reader has failed");
     check_text(&rt, alloc, &PlayFault::Write, "the writer has failed")

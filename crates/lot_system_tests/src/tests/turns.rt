@@ -182,6 +182,7 @@ fn check_turns(rt: &impl Abort, alloc: Global, (input, room): (&str, u32), turns
     check_rows(rt, &program, &mut system, turns)
 }
 
+/// `Stale` comes before `Ended` and `HistoryFull`, and `Ended` before `HistoryFull`.
 const FAULTS: &[Row] = &[
     (0, Given::Beginning(100), Came::Stale(None)),
     (0, Given::Nothing, Came::Funded(1)),
@@ -196,17 +197,13 @@ const FAULTS: &[Row] = &[
     (0, Given::Nothing, Came::Ended),
 ];
 
-// `Stale` comes before `Ended` and `HistoryFull`, and `Ended` before `HistoryFull`.
-#[test]
-fn faults_in_order(rt: HostRuntime) {
-    check_turns(&rt, rt.alloc(), (SPINNER, 4), FAULTS)
-}
-
 /// Two scripts, and three threads that each have a processor to themselves.
 const THREE_PROCESSORS: &str =
     "lottery 1\nprocessors 3\nscript s\ncompute 150\nendscript\nscript u\nadd 1\ncompute 150\nendscript\n\
     fundx 1 base a s\nfundx 1 base b u\nfundx 1 base c s\n";
 
+/// A slice is stale if it is of another script, or of more or less than the budget left, or if there is none. A slice of
+/// another thread with the same script, start and budget is the same slice.
 const SLICES_OF_OTHERS: &[Row] = &[
     (0, Given::Nothing, Came::Funded(1)),
     (1, Given::Nothing, Came::Won(1, 0, 1)),
@@ -225,17 +222,12 @@ const SLICES_OF_OTHERS: &[Row] = &[
     (3, Given::Beginning(100), Came::Stale(None)),
 ];
 
-// A slice is stale if it is of another script, or of more or less than the budget left, or if there is none. A slice of
-// another thread with the same script, start and budget is the same slice.
-#[test]
-fn slices_of_others(rt: HostRuntime) {
-    check_turns(&rt, rt.alloc(), (THREE_PROCESSORS, 9), SLICES_OF_OTHERS)
-}
-
 /// Locks, computes and ends.
 const LOCKER: &str =
     "lottery 1\nmutex m\nscript s\nlock m\ncompute 5\nendscript\nfundx 1 base a s\n";
 
+/// A used slice is stale: the work is after the lock, with one tick less.
+///
 /// The last turn has no room.
 const TWICE_IN_THREE: &[Row] = &[
     (0, Given::Nothing, Came::Funded(1)),
@@ -266,13 +258,6 @@ const TWICE_IN_FOUR: &[Row] = &[
     ),
 ];
 
-// A used slice is stale: the work is after the lock, with one tick less.
-#[test]
-fn slice_twice(rt: HostRuntime) {
-    check_turns(&rt, rt.alloc(), (LOCKER, 3), TWICE_IN_THREE);
-    check_turns(&rt, rt.alloc(), (LOCKER, 4), TWICE_IN_FOUR)
-}
-
 /// Two processors and one thread.
 const TWO_PROCESSORS: &str =
     "lottery 1\nprocessors 2\nscript spin\ncompute 150\nendscript\nfundx 10 base a spin\n";
@@ -288,22 +273,29 @@ const NOTHING: &[Row] = &[
     (1, Given::Nothing, Came::Full),
 ];
 
-#[test]
-fn no_room(rt: HostRuntime) {
-    check_turns(&rt, rt.alloc(), (TWO_PROCESSORS, 0), NO_ROOM);
-    check_turns(&rt, rt.alloc(), ("lottery 1\n", 0), NOTHING)
-}
-
+/// A stale turn takes no number: the draw after it has the processor's first.
 const GENERATOR_STAYS: &[Row] = &[
     (0, Given::Nothing, Came::Funded(1)),
     (1, Given::Beginning(100), Came::Stale(None)),
     (1, Given::Nothing, Came::Won(1, 4, 10)),
 ];
 
-// A stale turn takes no number: the draw after it has the processor's first.
+/// Inputs with the room of their histories, and turns.
+const TURNS: &[((&str, u32), &[Row])] = &[
+    ((SPINNER, 4), FAULTS),
+    ((THREE_PROCESSORS, 9), SLICES_OF_OTHERS),
+    ((LOCKER, 3), TWICE_IN_THREE),
+    ((LOCKER, 4), TWICE_IN_FOUR),
+    ((TWO_PROCESSORS, 0), NO_ROOM),
+    (("lottery 1\n", 0), NOTHING),
+    ((TWO_PROCESSORS, 3), GENERATOR_STAYS),
+];
+
 #[test]
-fn generator_stays(rt: HostRuntime) {
-    check_turns(&rt, rt.alloc(), (TWO_PROCESSORS, 3), GENERATOR_STAYS)
+fn turns(rt: HostRuntime) {
+    for (opening, rows) in TURNS {
+        check_turns(&rt, rt.alloc(), *opening, rows);
+    }
 }
 
 /// The number of draws without a winner, of this many by the first processor.
@@ -361,21 +353,13 @@ fn check_owners(rt: &impl Abort, system: &System) {
     check_same(rt, &system.compensation(1), &Some(4))
 }
 
+/// Thread 1 owns the mutex. It locked, computed for two ticks and yielded, four ticks in all.
 #[test]
 fn waiters_stand_in_order_of_waiting(rt: HostRuntime) {
     let alloc = rt.alloc();
     let program = parsed(&rt, alloc, WAITING);
     let mut system = opened(&rt, alloc, &program, 10);
     make_turns(&rt, &mut system, &program, program.schedule());
-    check_waiters(&rt, alloc, &program, &system)
-}
-
-// Thread 1 owns the mutex. It locked, computed for two ticks and yielded, four ticks in all.
-#[test]
-fn owners_and_compensations(rt: HostRuntime) {
-    let alloc = rt.alloc();
-    let program = parsed(&rt, alloc, WAITING);
-    let mut system = opened(&rt, alloc, &program, 10);
-    make_turns(&rt, &mut system, &program, program.schedule());
+    check_waiters(&rt, alloc, &program, &system);
     check_owners(&rt, &system)
 }

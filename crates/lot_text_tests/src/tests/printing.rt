@@ -1,25 +1,19 @@
 //! The texts of replies, listings, totals, histories and refused inputs, with the expected ones written by hand.
-ghost use Rattle.std.specs.Prelude.{◌≡◌, ◌<◌, ◌^◌, false};
+ghost use Rattle.std.specs.Prelude.{◌≡◌};
 
 use super::same::check_same_at;
 use lot_io::{IoFault, Watched};
-use lot_kernel_tests::won;
 use lot_machine::{
     Action, CurrencyRow, Event, Kind, Limits, Name, Outcome, Refusal, Reply, Sizes, Status, Target,
     ThreadRow, TicketRow, TrapRefusal,
 };
 use lot_print::{
-    Columns, Figures, FiguresTable, Heading, Page, ProcessorFigures, ProcessorTotal, SpanFigures,
-    Spread, Subject, ThreadShares, TimedProcessorTotal, TimedWholeTotal, WholeFigures, WholeTotal,
-    write_currency, write_early_end, write_ended, write_fault, write_figures, write_figures_record,
-    write_header, write_history, write_listing_line, write_processor_figures,
-    write_processor_total, write_reply, write_report_line, write_seeds, write_thread,
-    write_thread_record, write_thread_total, write_ticket, write_timed_processor_total,
-    write_timed_thread_record, write_timed_thread_total, write_timed_whole_total,
-    write_whole_figures, write_whole_total,
+    Figures, Heading, Page, Spread, write_currency, write_early_end, write_ended, write_fault,
+    write_figures, write_figures_record, write_header, write_history, write_listing_line,
+    write_reply, write_report_line, write_seeds, write_thread, write_ticket, write_told,
 };
 use lot_simulation::{
-    EarlyEnd, Format, InputFault, InputRefusal, LineStyle, PastLives, Span, Spans,
+    COLUMNS, Cell, EarlyEnd, Format, InputFault, InputRefusal, Layout, LineStyle, Subject, Table,
 };
 use std::alloc::Global;
 use std::process::Abort;
@@ -79,37 +73,6 @@ fn check_reply(rt: &impl Abort, alloc: Global, actor: u32, reply: Reply, wanted:
     check_event(rt, alloc, actor, &Event::Draw(1, 0), reply, wanted);
 }
 
-/// Compares the lines of replies to events that aren't traps.
-#[test]
-fn prints_replies(rt: HostRuntime) {
-    let funded = Reply::Funded {
-        ticket: 8,
-        thread: 3,
-    };
-    let expired = Reply::Expired {
-        thread: 1,
-        ticks: 100,
-    };
-    for (reply, line) in [
-        (Reply::Ticket(1), "1 ticket 1\n"),
-        (Reply::Currency(2), "1 currency 2\n"),
-        (Reply::Thread(1), "1 thread 1\n"),
-        (funded, "1 funded 8 3\n"),
-        (Reply::Done, "1 done\n"),
-        (Reply::Killed(3), "1 done\n"),
-        (won(1, 9, 15, None), "1 draw 9 of 15 thread 1\n"),
-        (
-            won(1, 5, 100, Some(41)),
-            "1 draw 5 of 100 thread 1 got 41\n",
-        ),
-        (Reply::Idle, "1 idle\n"),
-        (expired, "1 thread 1 ticks 100 expire\n"),
-        (Reply::Refused(Refusal::Full), "1 refused 13 Full\n"),
-    ] {
-        check_reply(&rt, rt.alloc(), 1, reply, line);
-    }
-}
-
 /// Checks the line of a trap of thread 1 after 2 ticks, whose end this is.
 fn check_trap(rt: &impl Abort, alloc: Global, ends: bool, trap: (Action, Outcome), end: &str) {
     let (action, outcome) = trap;
@@ -158,6 +121,36 @@ const TRAPS: &[(Action, Outcome, &str)] = &[
     (UNLOCK, TO_THE_OLDEST, "unlock 4 to 6 oldest"),
     (Action::Exit, Outcome::Exited, "exit"),
     (Action::Sleep(()), Outcome::Slept, "sleep"),
+    (
+        Action::Yield,
+        Outcome::Refused(TrapRefusal::NoPort),
+        "refused 30 NoPort",
+    ),
+    (
+        Action::Yield,
+        Outcome::Refused(TrapRefusal::NothingToReply),
+        "refused 32 NothingToReply",
+    ),
+    (
+        Action::Yield,
+        Outcome::Refused(TrapRefusal::NoMutex),
+        "refused 33 NoMutex",
+    ),
+    (
+        Action::Yield,
+        Outcome::Refused(TrapRefusal::NotOwner),
+        "refused 34 NotOwner",
+    ),
+    (
+        Action::Yield,
+        Outcome::Refused(TrapRefusal::AlreadyOwner),
+        "refused 35 AlreadyOwner",
+    ),
+    (
+        Action::Yield,
+        Outcome::Refused(TrapRefusal::LockCycle),
+        "refused 36 LockCycle",
+    ),
 ];
 
 const LOCK_CYCLE: Outcome = Outcome::Refused(TrapRefusal::LockCycle);
@@ -185,6 +178,45 @@ fn prints_traps(rt: HostRuntime) {
     check_traps(&rt, rt.alloc(), true, LAST_TRAPS);
 }
 
+const FUNDED: Reply = Reply::Funded {
+    ticket: 8,
+    thread: 3,
+};
+
+const EXPIRED: Reply = Reply::Expired {
+    thread: 1,
+    ticks: 100,
+};
+
+const WINNER: Reply = Reply::Winner {
+    thread: 1,
+    number: 9,
+    total: 15,
+    delivered: None,
+};
+
+const WINNER_OF_41: Reply = Reply::Winner {
+    thread: 1,
+    number: 5,
+    total: 100,
+    delivered: Some(41),
+};
+
+/// Replies to events that aren't traps, and their lines.
+const REPLIES: &[(Reply, &str)] = &[
+    (Reply::Ticket(1), "1 ticket 1\n"),
+    (Reply::Currency(2), "1 currency 2\n"),
+    (Reply::Thread(1), "1 thread 1\n"),
+    (FUNDED, "1 funded 8 3\n"),
+    (Reply::Done, "1 done\n"),
+    (Reply::Killed(3), "1 done\n"),
+    (WINNER, "1 draw 9 of 15 thread 1\n"),
+    (WINNER_OF_41, "1 draw 5 of 100 thread 1 got 41\n"),
+    (Reply::Idle, "1 idle\n"),
+    (EXPIRED, "1 thread 1 ticks 100 expire\n"),
+    (Reply::Refused(Refusal::Full), "1 refused 13 Full\n"),
+];
+
 const REFUSALS: &[(Refusal, &str)] = &[
     (Refusal::BadName, "2 refused 1 BadName\n"),
     (Refusal::NameTaken, "2 refused 2 NameTaken\n"),
@@ -210,26 +242,12 @@ const REFUSALS: &[(Refusal, &str)] = &[
 ];
 
 #[test]
-fn prints_refusals(rt: HostRuntime) {
+fn prints_replies(rt: HostRuntime) {
+    for (reply, line) in REPLIES {
+        check_reply(&rt, rt.alloc(), 1, *reply, line);
+    }
     for (refusal, line) in REFUSALS {
         check_reply(&rt, rt.alloc(), 2, Reply::Refused(*refusal), line);
-    }
-}
-
-const TRAP_REFUSALS: &[(TrapRefusal, &str)] = &[
-    (TrapRefusal::NoPort, "refused 30 NoPort"),
-    (TrapRefusal::NothingToReply, "refused 32 NothingToReply"),
-    (TrapRefusal::NoMutex, "refused 33 NoMutex"),
-    (TrapRefusal::NotOwner, "refused 34 NotOwner"),
-    (TrapRefusal::AlreadyOwner, "refused 35 AlreadyOwner"),
-    (TrapRefusal::LockCycle, "refused 36 LockCycle"),
-];
-
-#[test]
-fn prints_trap_refusals(rt: HostRuntime) {
-    for (refusal, end) in TRAP_REFUSALS {
-        let trap = (Action::Yield, Outcome::Refused(*refusal));
-        check_trap(&rt, rt.alloc(), false, trap, end);
     }
 }
 
@@ -271,47 +289,11 @@ fn prints_ended(rt: HostRuntime) {
     check(&rt, writer, ended, "0 refused 41 Ended\n");
 }
 
-/// Writes a report of one thread and one processor.
-fn write_small_report(
-    writer: &mut Watched<Vec<u8>>,
-    thread: &ThreadRow,
-    processor: ProcessorTotal,
-    total: WholeTotal,
-) -> Result<(), IoFault>
-    requires { writer.old.failed ≡ false }
-{
-    write_report_line(writer)?;
-    write_thread_total(writer, 1, thread)?;
-    write_processor_total(writer, processor)?;
-    write_whole_total(writer, total)
-}
-
 #[test]
-fn prints_totals(rt: HostRuntime) {
-    let row = ThreadRow {
-        name: name(&rt, "a"),
-        status: Status::Ready,
-        value: 0,
-        weight: 0,
-        quanta: 2,
-        ticks: 200,
-    };
-    let processor = ProcessorTotal {
-        processor: 1,
-        quanta: 3,
-        idles: 0,
-        ticks: 300,
-    };
-    let total = WholeTotal {
-        turns: 12,
-        quanta: 3,
-        ticks: 300,
-    };
+fn prints_report_lines(rt: HostRuntime) {
     let mut writer = Watched::new(Vec::new(rt.alloc()));
-    let ended = write_small_report(&mut writer, &row, processor, total);
-    let wanted = "report\nthread 1 a quanta 2 ticks 200\nprocessor 1 quanta 3 idle 0 ticks 300\n\
-        total turns 12 quanta 3 ticks 300\n";
-    check(&rt, writer, ended, wanted);
+    let ended = write_report_line(&mut writer);
+    check(&rt, writer, ended, "report\n");
 }
 
 /// The largest limits, with this unit.
@@ -469,92 +451,57 @@ fn check_history(rt: &impl Abort, alloc: Global, format: Format, history: &[u8],
     check(rt, writer, ended, wanted);
 }
 
-#[test]
-fn prints_histories(rt: HostRuntime) {
-    check_history(&rt, rt.alloc(), Format::V1, &[], "");
-    check_history(&rt, rt.alloc(), Format::V2, &[], "");
-    check_history(
-        &rt,
-        rt.alloc(),
-        Format::V1,
-        &[0, 1, 64],
-        "schedule 0 1 64\n",
-    );
-    check_history(&rt, rt.alloc(), Format::V2, &[1, 1, 1], "runs 1 3\n");
-}
-
 /// 65 turns of processor 1, and one of the console.
-fn long_history() -> [u8; 66] {
-    let mut history = [1; 66];
-    history[65] = 0;
-    history
-}
+const LONG: &[u8] = &[
+    1, 1, 1, 1, 1, 1, 1, 1, 1, 1, 1, 1, 1, 1, 1, 1, 1, 1, 1, 1, 1, 1, 1, 1, 1, 1, 1, 1, 1, 1, 1, 1,
+    1, 1, 1, 1, 1, 1, 1, 1, 1, 1, 1, 1, 1, 1, 1, 1, 1, 1, 1, 1, 1, 1, 1, 1, 1, 1, 1, 1, 1, 1, 1, 1,
+    1, 0,
+];
 
 const LONG_LINES: &str =
     "schedule 1 1 1 1 1 1 1 1 1 1 1 1 1 1 1 1 1 1 1 1 1 1 1 1 1 1 1 1 1 1 1 1 1 1 1 1 1 1 1 1 1 1 1 1 1 1 1 1 1 1 \
     1 1 1 1 1 1 1 1 1 1 1 1 1 1\nschedule 1 0\n";
 
-#[test]
-fn prints_long_histories(rt: HostRuntime) {
-    let history = long_history();
-    check_history(&rt, rt.alloc(), Format::V1, &history, LONG_LINES);
-    check_history(&rt, rt.alloc(), Format::V2, &history, "runs 1 65 0 1\n");
-}
-
 /// Processor 64 and the console in turn.
-fn mixed_history() -> [u8; 34] {
-    let mut history = [0; 34];
-    for place in 0..17 {
-        history[2 * place] = 64;
-    }
-    history
-}
+const MIXED: &[u8] = &[
+    64, 0, 64, 0, 64, 0, 64, 0, 64, 0, 64, 0, 64, 0, 64, 0, 64, 0, 64, 0, 64, 0, 64, 0, 64, 0, 64,
+    0, 64, 0, 64, 0, 64, 0,
+];
 
 const MIXED_LINES: &str =
     "runs 64 1 0 1 64 1 0 1 64 1 0 1 64 1 0 1 64 1 0 1 64 1 0 1 64 1 0 1 64 1 0 1 64 1 0 1 64 1 0 1 64 1 0 1 64 1 0 1 \
     64 1 0 1 64 1 0 1 64 1 0 1 64 1 0 1\nruns 64 1 0 1\n";
 
-#[test]
-fn prints_mixed_histories(rt: HostRuntime) {
-    check_history(&rt, rt.alloc(), Format::V2, &mixed_history(), MIXED_LINES);
-}
-
-#[test]
-fn prints_runs(rt: HostRuntime) {
-    check_history(
-        &rt,
-        rt.alloc(),
-        Format::V2,
-        &[2, 2, 2, 0, 2],
-        "runs 2 3 0 1 2 1\n",
-    );
-    check_history(&rt, rt.alloc(), Format::V2, &[1, 1, 0], "runs 1 2 0 1\n");
-}
-
 /// 33 runs of two turns.
-fn history_of_pairs(rt: &impl Abort, alloc: Global) -> Vec<u8> {
-    let mut history = Vec::new(alloc);
-    for run in 0..33u8 {
-        history.push(run).expect(rt, "memory");
-        history.push(run).expect(rt, "memory");
-    }
-    history
-}
+const PAIRS: &[u8] = &[
+    0, 0, 1, 1, 2, 2, 3, 3, 4, 4, 5, 5, 6, 6, 7, 7, 8, 8, 9, 9, 10, 10, 11, 11, 12, 12, 13, 13, 14,
+    14, 15, 15, 16, 16, 17, 17, 18, 18, 19, 19, 20, 20, 21, 21, 22, 22, 23, 23, 24, 24, 25, 25, 26,
+    26, 27, 27, 28, 28, 29, 29, 30, 30, 31, 31, 32, 32,
+];
 
 const LINES_OF_PAIRS: &str =
     "runs 0 2 1 2 2 2 3 2 4 2 5 2 6 2 7 2 8 2 9 2 10 2 11 2 12 2 13 2 14 2 15 2 16 2 17 2 18 2 19 2 20 2 21 2 22 2 \
     23 2 24 2 25 2 26 2 27 2 28 2 29 2 30 2 31 2\nruns 32 2\n";
 
+/// Histories, and their lines in a format.
+const HISTORIES: &[(Format, &[u8], &str)] = &[
+    (Format::V1, &[], ""),
+    (Format::V2, &[], ""),
+    (Format::V1, &[0, 1, 64], "schedule 0 1 64\n"),
+    (Format::V2, &[1, 1, 1], "runs 1 3\n"),
+    (Format::V1, LONG, LONG_LINES),
+    (Format::V2, LONG, "runs 1 65 0 1\n"),
+    (Format::V2, MIXED, MIXED_LINES),
+    (Format::V2, &[2, 2, 2, 0, 2], "runs 2 3 0 1 2 1\n"),
+    (Format::V2, &[1, 1, 0], "runs 1 2 0 1\n"),
+    (Format::V2, PAIRS, LINES_OF_PAIRS),
+];
+
 #[test]
-fn prints_runs_after_a_line(rt: HostRuntime) {
-    let history = history_of_pairs(&rt, rt.alloc());
-    check_history(
-        &rt,
-        rt.alloc(),
-        Format::V2,
-        history.as_slice(),
-        LINES_OF_PAIRS,
-    );
+fn prints_histories(rt: HostRuntime) {
+    for (format, history, lines) in HISTORIES {
+        check_history(&rt, rt.alloc(), *format, history, lines);
+    }
 }
 
 /// Checks the line of a reply, with its time.
@@ -570,7 +517,12 @@ fn check_timed(rt: &impl Abort, alloc: Global, event: &Event, reply: Reply, want
 
 /// A draw of this number of this total, which thread 2 won.
 fn check_drawn(rt: &impl Abort, alloc: Global, number: u128, total: u128, wanted: &str) {
-    let reply = won(2, number, total, None);
+    let reply = Reply::Winner {
+        thread: 2,
+        number,
+        total,
+        delivered: None,
+    };
     check_timed(rt, alloc, &Event::Draw(1, 0), reply, wanted);
 }
 
@@ -636,170 +588,182 @@ fn prints_wakes(rt: HostRuntime) {
     check_woken(&rt, rt.alloc(), refused, "120 1 refused 24 NotAsleep\n");
 }
 
-/// The largest possible waits.
-const LONG: Spans = Spans {
-    count: u32::MAX,
-    total: u64::MAX,
-    longest: u32::MAX,
-    last: None,
-    since: None,
-};
+/// A subject with number 2 and its cells, its line, and its row in a table, if there is such a table.
+struct PrintedSubject<'a> {
+    subject: Subject,
+    cells: &'a [Cell],
+    line: &'a str,
+    row: Option<&'a str>,
+}
 
-/// No waits.
-const NO_SPANS: Spans = Spans {
-    count: 0,
-    total: 0,
-    longest: 0,
-    last: None,
-    since: None,
-};
+// Cells are in thousandths. A thread that never waited, had no trap refused and was made at 0 has a line without that.
+const SUBJECTS: &[PrintedSubject<'static>] = &[
+    PrintedSubject {
+        subject: Subject::Thread,
+        cells: &[Cell::Figure(4000), Cell::Figure(18446744073709551615000)],
+        line: "thread 2 a quanta 4 ticks 18446744073709551615\n",
+        row: Some("2,a,4,18446744073709551615\n"),
+    },
+    PrintedSubject {
+        subject: Subject::Thread,
+        cells: &[
+            Cell::Figure(4000),
+            Cell::Figure(2000),
+            Cell::Figure(66666),
+            Cell::Figure(50000),
+            Cell::Figure(12500),
+            Cell::Figure(3000),
+            Cell::Figure(2333),
+            Cell::Figure(5000),
+            Cell::Figure(5000),
+            Cell::Figure(2400),
+            Cell::Figure(4000),
+            Cell::Unsaid,
+            Cell::Empty,
+            Cell::Empty,
+            Cell::Unsaid,
+            Cell::Unsaid,
+            Cell::Empty,
+        ],
+        line: "thread 2 a quanta 4 ticks 2 share 66.666% due 50% value 12.5% \
+            ready waits 3 mean 2.333 longest 5 mutex waits 5 mean 2.4 longest 4\n",
+        row: Some("2,a,4,2,66.666,50,12.5,3,2.333,5,5,2.4,4,0,,,0,0,\n"),
+    },
+    PrintedSubject {
+        subject: Subject::Thread,
+        cells: &[
+            Cell::Figure(4000),
+            Cell::Figure(2000),
+            Cell::Figure(0),
+            Cell::Figure(0),
+            Cell::Figure(0),
+            Cell::Unsaid,
+            Cell::Empty,
+            Cell::Empty,
+            Cell::Unsaid,
+            Cell::Empty,
+            Cell::Empty,
+            Cell::Figure(4294967295000),
+            Cell::Figure(4294967297001),
+            Cell::Figure(4294967295000),
+            Cell::Figure(12000),
+            Cell::Figure(0),
+            Cell::Figure(4294967295000),
+        ],
+        line: "thread 2 a quanta 4 ticks 2 share 0% due 0% value 0% \
+            reply waits 4294967295 mean 4294967297.001 longest 4294967295 refused 12 \
+            made 0 ended 4294967295\n",
+        row: Some("2,a,4,2,0,0,0,0,,,0,,,4294967295,4294967297.001,4294967295,12,0,4294967295\n"),
+    },
+    PrintedSubject {
+        subject: Subject::Currency,
+        cells: &[
+            Cell::Figure(3000),
+            Cell::Figure(33333),
+            Cell::Figure(100000),
+        ],
+        line: "currency 2 a ticks 3 share 33.333% due 100%\n",
+        row: Some("2,a,3,33.333,100\n"),
+    },
+    PrintedSubject {
+        subject: Subject::Processor,
+        cells: &[Cell::Figure(3000), Cell::Figure(4000), Cell::Figure(5000)],
+        line: "processor 2 quanta 3 idle 4 ticks 5\n",
+        row: None,
+    },
+    PrintedSubject {
+        subject: Subject::Processor,
+        cells: &[
+            Cell::Figure(3000),
+            Cell::Figure(4000),
+            Cell::Figure(5000),
+            Cell::Figure(6000),
+        ],
+        line: "processor 2 quanta 3 idle 4 ticks 5 unused 6\n",
+        row: None,
+    },
+    PrintedSubject {
+        subject: Subject::Total,
+        cells: &[
+            Cell::Figure(12000),
+            Cell::Figure(3000),
+            Cell::Figure(300000),
+        ],
+        line: "total turns 12 quanta 3 ticks 300\n",
+        row: None,
+    },
+    PrintedSubject {
+        subject: Subject::Total,
+        cells: &[
+            Cell::Figure(1000),
+            Cell::Figure(2000),
+            Cell::Figure(3000),
+            Cell::Figure(4000),
+            Cell::Figure(5000),
+            Cell::Figure(2000),
+            Cell::Figure(2500),
+            Cell::Figure(4000),
+        ],
+        line: "total turns 1 quanta 2 ticks 3 refused 4 left 5 ended 2 mean 2.5 longest 4\n",
+        row: None,
+    },
+];
 
-/// The life of a thread that was made at this time and hasn't ended.
-fn begun(since: u32) -> Spans {
-    Spans {
-        since: Some(since),
-        ..NO_SPANS
+fn check_subject(rt: &impl Abort, alloc: Global, printed: &PrintedSubject<'_>) {
+    let (subject, name) = (printed.subject, name(rt, "a"));
+    let mut writer = Watched::new(Vec::new(alloc));
+    let ended = write_told(
+        &mut writer,
+        Layout::InLine,
+        subject,
+        2,
+        &name,
+        printed.cells,
+    );
+    check(rt, writer, ended, printed.line);
+    if let Some(row) = printed.row {
+        let mut writer = Watched::new(Vec::new(alloc));
+        let ended = write_told(
+            &mut writer,
+            Layout::InTable,
+            subject,
+            2,
+            &name,
+            printed.cells,
+        );
+        check(rt, writer, ended, row);
     }
 }
 
-/// The life of a thread that was made and has ended at these times.
-fn lived(from: u32, to: u32) -> Spans {
-    Spans {
-        last: Some(Span { from, to }),
-        ..NO_SPANS
+#[test]
+fn prints_subjects(rt: HostRuntime) {
+    for printed in SUBJECTS {
+        check_subject(&rt, rt.alloc(), printed);
     }
 }
 
-/// Checks the line and the row of thread 1 with 4 quanta and 2 ticks, among totals of which it has these shares.
-fn check_shares(rt: &impl Abort, alloc: Global, shares: ThreadShares, wanted: &str, fields: &str)
-    requires live { shares.live_time < 2 ^ 57 }
-    requires due { shares.due < 2 ^ 121 }
-    requires values { shares.all_values < 2 ^ 96 }
-{
-    let row = ThreadRow {
-        quanta: 4,
-        ticks: 2,
-        ..thread_row(rt, Status::Ready)
-    };
-    let mut writer = Watched::new(Vec::new(alloc));
-    let ended = write_timed_thread_total(&mut writer, 1, &row, shares);
-    check(rt, writer, ended, wanted);
-    let mut writer = Watched::new(Vec::new(alloc));
-    let ended = write_timed_thread_record(&mut writer, 1, &row, shares);
-    check(rt, writer, ended, fields);
-}
-
-// 2 of 3 ticks are 66.666%, and 1500000000000000000 is half of 3 * 10 ^ 18. 3 waits of 7 ticks in all are 2.333 on
-// average, 5 of 12 are 2.4, and 18446744073709551615 / 4294967295 is 4294967297.
-#[test]
-fn prints_timed_totals(rt: HostRuntime) {
-    let shares = ThreadShares {
-        all_ticks: 3,
-        due: 1500000000000000000,
-        live_time: 3,
-        live_value: 1,
-        all_values: 8,
-        ready: Spans {
-            count: 3,
-            total: 7,
-            longest: 5,
-            last: None,
-            since: None,
-        },
-        mutexes: Spans {
-            count: 5,
-            total: 12,
-            longest: 4,
-            last: None,
-            since: None,
-        },
-        replies: NO_SPANS,
-        refused_traps: 0,
-        lives: begun(0),
-    };
-    let wanted = "thread 1 thread2 quanta 4 ticks 2 share 66.666% due 50% value 12.5% \
-        ready waits 3 mean 2.333 longest 5 mutex waits 5 mean 2.4 longest 4\n";
-    let fields = "1,thread2,4,2,66.666,50,12.5,3,2.333,5,5,2.4,4,0,,,0,0,\n";
-    check_shares(&rt, rt.alloc(), shares, wanted, fields);
-    let shares = ThreadShares {
-        all_ticks: 0,
-        due: 0,
-        live_time: 0,
-        live_value: 0,
-        all_values: 0,
-        ready: LONG,
-        mutexes: NO_SPANS,
-        replies: LONG,
-        refused_traps: 12,
-        lives: lived(7, u32::MAX),
-    };
-    let wanted = "thread 1 thread2 quanta 4 ticks 2 share 0% due 0% value 0% \
-        ready waits 4294967295 mean 4294967297 longest 4294967295 \
-        reply waits 4294967295 mean 4294967297 longest 4294967295 refused 12 made 7 ended 4294967295\n";
-    let fields = "1,thread2,4,2,0,0,0,4294967295,4294967297,4294967295,0,,,\
-        4294967295,4294967297,4294967295,12,7,4294967295\n";
-    check_shares(&rt, rt.alloc(), shares, wanted, fields);
-}
-
-// The thread that had the number before has ended; this one hasn't. 666666666666666666 is a third of 2 * 10 ^ 18,
-// rounded down.
-#[test]
-fn prints_lives(rt: HostRuntime) {
-    let shares = ThreadShares {
-        all_ticks: 2,
-        due: 666666666666666666,
-        live_time: 2,
-        live_value: 0,
-        all_values: 0,
-        ready: NO_SPANS,
-        mutexes: NO_SPANS,
-        replies: NO_SPANS,
-        refused_traps: 0,
-        lives: Spans {
-            since: Some(31),
-            ..lived(0, 30)
-        },
-    };
-    let wanted = "thread 1 thread2 quanta 4 ticks 2 share 100% due 33.333% value 0% made 31\n";
-    check_shares(
-        &rt,
-        rt.alloc(),
-        shares,
-        wanted,
-        "1,thread2,4,2,100,33.333,0,0,,,0,,,0,,,0,31,\n",
-    );
-    let shares = ThreadShares {
-        lives: NO_SPANS,
-        ..shares
-    };
-    let wanted = "thread 1 thread2 quanta 4 ticks 2 share 100% due 33.333% value 0%\n";
-    check_shares(
-        &rt,
-        rt.alloc(),
-        shares,
-        wanted,
-        "1,thread2,4,2,100,33.333,0,0,,,0,,,0,,,0,,\n",
-    );
-}
-
-const HEADERS: &[(Columns, &str)] = &[
-    (Columns::Totals, "thread,name,quanta,ticks\n"),
+const HEADERS: &[(Table, bool, &str)] = &[
+    (Table::Schedule, false, "thread,name,quanta,ticks\n"),
     (
-        Columns::TimedTotals,
+        Table::Timed,
+        false,
         "thread,name,quanta,ticks,share_percent,due_percent,value_percent,ready_waits,ready_mean,ready_longest,\
          mutex_waits,mutex_mean,mutex_longest,reply_waits,reply_mean,reply_longest,refused,made,ended\n",
     ),
     (
-        Columns::Currencies,
+        Table::Currencies,
+        false,
         "currency,name,ticks,share_percent,due_percent\n",
     ),
     (
-        Columns::Figures(FiguresTable::Schedule),
+        Table::Schedule,
+        true,
         "thread,name,plays,quanta_mean,quanta_least,quanta_most,ticks_mean,ticks_least,ticks_most,\
          share_percent_mean,share_percent_least,share_percent_most\n",
     ),
     (
-        Columns::Figures(FiguresTable::Timed),
+        Table::Timed,
+        true,
         "thread,name,plays,quanta_mean,quanta_least,quanta_most,ticks_mean,ticks_least,ticks_most,\
          share_percent_mean,share_percent_least,share_percent_most,\
          due_percent_mean,due_percent_least,due_percent_most,\
@@ -814,42 +778,32 @@ const HEADERS: &[(Columns, &str)] = &[
          ended_mean,ended_least,ended_most\n",
     ),
     (
-        Columns::Figures(FiguresTable::OfCurrencies),
+        Table::Currencies,
+        true,
         "currency,name,plays,ticks_mean,ticks_least,ticks_most,\
          share_percent_mean,share_percent_least,share_percent_most,\
          due_percent_mean,due_percent_least,due_percent_most\n",
     ),
 ];
 
-fn check_header(rt: &impl Abort, alloc: Global, columns: Columns, wanted: &str) {
+fn check_header(rt: &impl Abort, alloc: Global, table: Table, several: bool, wanted: &str) {
     let mut writer = Watched::new(Vec::new(alloc));
-    let ended = write_header(&mut writer, columns);
+    let ended = write_header(&mut writer, table, several);
     check(rt, writer, ended, wanted);
 }
 
 #[test]
 fn prints_headers(rt: HostRuntime) {
-    for (columns, wanted) in HEADERS {
-        check_header(&rt, rt.alloc(), *columns, wanted);
+    for (table, several, wanted) in HEADERS {
+        check_header(&rt, rt.alloc(), *table, *several, wanted);
     }
 }
 
-#[test]
-fn prints_records(rt: HostRuntime) {
-    let row = ThreadRow {
-        quanta: 4,
-        ticks: u64::MAX,
-        ..thread_row(&rt, Status::Dead)
-    };
-    let mut writer = Watched::new(Vec::new(rt.alloc()));
-    let ended = write_thread_record(&mut writer, 4096, &row);
-    check(&rt, writer, ended, "4096,thread2,4,18446744073709551615\n");
-}
-
-/// The spread of a figure that this many plays have.
+/// The spread of a figure that this many plays have, and that a play's line tells, in thousandths.
 fn spread(plays: u64, sum: u128, least: u128, most: u128) -> Spread {
     Spread {
         plays,
+        told: true,
         sum,
         least,
         most,
@@ -859,123 +813,99 @@ fn spread(plays: u64, sum: u128, least: u128, most: u128) -> Spread {
 /// A figure that no play has.
 const NO_FIGURE: Spread = Spread {
     plays: 0,
+    told: false,
     sum: 0,
     least: 0,
     most: 0,
 };
 
-/// The figures of waits in a report that has none of them.
-const UNTOLD: SpanFigures = SpanFigures {
-    count: NO_FIGURE,
-    mean: NO_FIGURE,
-    longest: NO_FIGURE,
+/// A figure that is 0 in three plays, so that no line tells it.
+const UNTOLD: Spread = Spread {
+    plays: 3,
+    ..NO_FIGURE
 };
 
-/// Three plays without waits, or without threads that have ended.
-fn no_spans() -> SpanFigures {
-    SpanFigures {
-        count: spread(3, 0, 0, 0),
-        mean: NO_FIGURE,
-        longest: NO_FIGURE,
-    }
-}
-
-/// A play without waits, and two with 3 waits of 7 ticks and 4 of 2 ticks, the longest 5 and 1 ticks.
-fn some_waits() -> SpanFigures {
-    SpanFigures {
-        count: spread(3, 7, 0, 4),
-        mean: spread(2, 2833, 500, 2333),
-        longest: spread(2, 6, 1, 5),
-    }
-}
-
-/// Plays with one wait of 0 ticks, with 2 of one tick, and with 2 of 3 ticks, the longest 0, 1 and 2 ticks.
-fn more_waits() -> SpanFigures {
-    SpanFigures {
-        count: spread(3, 5, 1, 2),
-        mean: spread(3, 2000, 0, 1500),
-        longest: spread(3, 3, 0, 2),
-    }
-}
-
-/// The figures of a thread of a schedule. Shares are in thousandths of a percent.
-fn of_schedule(rt: &impl Abort) -> Figures {
+/// The figures of a subject with this name over this many plays, none of which has a figure.
+fn no_figures(rt: &impl Abort, text: &str, plays: u64) -> Figures {
     Figures {
-        name: name(rt, "a"),
-        plays: 3,
-        quanta: spread(3, 10, 3, 4),
-        ticks: spread(3, 90, 0, 90),
-        share: spread(3, 150000, 45500, 54001),
-        due: NO_FIGURE,
-        value: NO_FIGURE,
-        ready: UNTOLD,
-        mutexes: UNTOLD,
-        replies: UNTOLD,
-        refused: NO_FIGURE,
-        made: NO_FIGURE,
-        ended: NO_FIGURE,
+        name: name(rt, text),
+        plays,
+        spreads: [NO_FIGURE; COLUMNS],
     }
 }
 
-/// The figures of a thread of a timed program, which had a trap refused in one play, and ended in one.
-fn of_timed(rt: &impl Abort) -> Figures {
-    let mut figures = of_schedule(rt);
-    figures.due = spread(3, 100000, 33333, 33334);
-    figures.value = spread(3, 0, 0, 0);
-    figures.ready = some_waits();
-    figures.mutexes = no_spans();
-    figures.replies = more_waits();
-    figures.refused = spread(3, 1, 0, 1);
-    figures.made = spread(3, 10, 0, 10);
-    figures.ended = spread(1, 20, 20, 20);
+/// The figures of a thread of a schedule.
+fn of_schedule(rt: &impl Abort) -> Figures {
+    let mut figures = no_figures(rt, "a", 3);
+    figures.spreads[0] = spread(3, 10000, 3000, 4000);
+    figures.spreads[1] = spread(3, 90000, 0, 90000);
+    figures.spreads[2] = spread(3, 150000, 45500, 54001);
     figures
 }
 
-/// The figures of a thread that waited only for mutexes, had no trap refused, and never ended.
+/// The figures of a thread of a timed program that never waited, had no trap refused, and never ended.
+fn of_idle(rt: &impl Abort) -> Figures {
+    let mut figures = of_schedule(rt);
+    figures.spreads[3] = spread(3, 100000, 33333, 33334);
+    figures.spreads[4] = spread(3, 0, 0, 0);
+    figures.spreads[5] = UNTOLD;
+    figures.spreads[8] = UNTOLD;
+    figures.spreads[11] = UNTOLD;
+    figures.spreads[14] = UNTOLD;
+    figures.spreads[15] = spread(3, 10000, 0, 10000);
+    figures
+}
+
+/// The figures of the waits that begin with this column: a play without waits, and two with 3 waits of 7 ticks and 4 of
+/// 2 ticks, the longest 5 and 1 ticks.
+fn add_some_waits(figures: &mut Figures, column: usize) {
+    if column < COLUMNS - 2 {
+        figures.spreads[column] = spread(3, 7000, 0, 4000);
+        figures.spreads[column + 1] = spread(2, 2833, 500, 2333);
+        figures.spreads[column + 2] = spread(2, 6000, 1000, 5000);
+    }
+}
+
+/// The figures of a thread of a timed program, which had a trap refused in one play, and ended in one. Its plays had
+/// one wait for a reply of 0 ticks, 2 of one tick, and 2 of 3 ticks, the longest 0, 1 and 2 ticks.
+fn of_timed(rt: &impl Abort) -> Figures {
+    let mut figures = of_idle(rt);
+    add_some_waits(&mut figures, 5);
+    figures.spreads[11] = spread(3, 5000, 1000, 2000);
+    figures.spreads[12] = spread(3, 2000, 0, 1500);
+    figures.spreads[13] = spread(3, 3000, 0, 2000);
+    figures.spreads[14] = spread(3, 1000, 0, 1000);
+    figures.spreads[16] = spread(1, 20000, 20000, 20000);
+    figures
+}
+
+/// The figures of a thread that waited only for mutexes.
 fn of_waiting(rt: &impl Abort) -> Figures {
-    let mut figures = of_timed(rt);
-    figures.ready = no_spans();
-    figures.mutexes = some_waits();
-    figures.replies = no_spans();
-    figures.refused = spread(3, 0, 0, 0);
-    figures.ended = NO_FIGURE;
+    let mut figures = of_idle(rt);
+    add_some_waits(&mut figures, 8);
     figures
 }
 
 /// The figures of a currency.
 fn of_currency(rt: &impl Abort) -> Figures {
-    Figures {
-        name: name(rt, "g"),
-        plays: 2,
-        quanta: NO_FIGURE,
-        ticks: spread(2, 3, 1, 2),
-        share: spread(2, 99999, 33333, 66666),
-        due: spread(2, 100000, 50000, 50000),
-        value: NO_FIGURE,
-        ready: UNTOLD,
-        mutexes: UNTOLD,
-        replies: UNTOLD,
-        refused: NO_FIGURE,
-        made: NO_FIGURE,
-        ended: NO_FIGURE,
-    }
+    let mut figures = no_figures(rt, "g", 2);
+    figures.spreads[0] = spread(2, 3000, 1000, 2000);
+    figures.spreads[1] = spread(2, 99999, 33333, 66666);
+    figures.spreads[2] = spread(2, 100000, 50000, 50000);
+    figures
 }
 
 /// Checks the lines with these figures, and the row in this table, of the thread or the currency with number 2.
 fn check_figures(
     rt: &impl Abort,
     alloc: Global,
-    table: FiguresTable,
+    table: Table,
     figures: &Figures,
     wanted: &str,
     fields: &str,
 ) {
-    let subject = match table {
-        FiguresTable::Schedule | FiguresTable::Timed => Subject::Thread,
-        FiguresTable::OfCurrencies => Subject::Currency,
-    };
     let mut writer = Watched::new(Vec::new(alloc));
-    let ended = write_figures(&mut writer, subject, 2, figures);
+    let ended = write_figures(&mut writer, table.subject(), 2, figures);
     check(rt, writer, ended, wanted);
     let mut writer = Watched::new(Vec::new(alloc));
     let ended = write_figures_record(&mut writer, table, 2, figures);
@@ -991,26 +921,12 @@ fn prints_figures(rt: HostRuntime) {
         share mean 50% least 45.5% most 54.001%\n";
     let fields = "2,a,3,3.333,3,4,30,0,90,50,45.5,54.001\n";
     let figures = of_schedule(&rt);
-    check_figures(
-        &rt,
-        rt.alloc(),
-        FiguresTable::Schedule,
-        &figures,
-        wanted,
-        fields,
-    );
+    check_figures(&rt, rt.alloc(), Table::Schedule, &figures, wanted, fields);
     let wanted = "currency 2 g plays 2 ticks mean 1.5 least 1 most 2 \
         share mean 49.999% least 33.333% most 66.666% due mean 50% least 50% most 50%\n";
     let fields = "2,g,2,1.5,1,2,49.999,33.333,66.666,50,50,50\n";
     let figures = of_currency(&rt);
-    check_figures(
-        &rt,
-        rt.alloc(),
-        FiguresTable::OfCurrencies,
-        &figures,
-        wanted,
-        fields,
-    );
+    check_figures(&rt, rt.alloc(), Table::Currencies, &figures, wanted, fields);
 }
 
 // 2.333 and 0.5 are 2.833 in all: 1.416 on average over the two plays with such waits. 0, 0.5 and 1.5 are 0.666 on
@@ -1031,14 +947,7 @@ fn prints_timed_figures(rt: HostRuntime) {
         2.333,0,4,1.416,0.5,2.333,3,1,5,0,0,0,,,,,,,1.666,1,2,0.666,0,1.5,1,0,2,\
         0.333,0,1,3.333,0,10,20,20,20\n";
     let figures = of_timed(&rt);
-    check_figures(
-        &rt,
-        rt.alloc(),
-        FiguresTable::Timed,
-        &figures,
-        wanted,
-        fields,
-    );
+    check_figures(&rt, rt.alloc(), Table::Timed, &figures, wanted, fields);
     let wanted =
         "thread 2 a plays 3 quanta mean 3.333 least 3 most 4 ticks mean 30 least 0 most 90 \
         share mean 50% least 45.5% most 54.001% due mean 33.333% least 33.333% most 33.334% \
@@ -1049,31 +958,33 @@ fn prints_timed_figures(rt: HostRuntime) {
         0,0,0,,,,,,,2.333,0,4,1.416,0.5,2.333,3,1,5,0,0,0,,,,,,,\
         0,0,0,3.333,0,10,,,\n";
     let figures = of_waiting(&rt);
-    check_figures(
-        &rt,
-        rt.alloc(),
-        FiguresTable::Timed,
-        &figures,
-        wanted,
-        fields,
-    );
+    check_figures(&rt, rt.alloc(), Table::Timed, &figures, wanted, fields);
+}
+
+/// The first figures of a processor, or of all actors, over three plays.
+fn of_actors(rt: &impl Abort) -> Figures {
+    let mut figures = no_figures(rt, "", 3);
+    figures.spreads[0] = spread(3, 29000, 9000, 10000);
+    figures.spreads[1] = spread(3, 10000, 3000, 4000);
+    figures.spreads[2] = spread(3, 90000, 0, 90000);
+    figures.spreads[3] = spread(3, 2000, 0, 1000);
+    figures
+}
+
+/// Checks the lines of the subject with number 64 and these figures.
+fn check_lines(rt: &impl Abort, alloc: Global, subject: Subject, figures: &Figures, wanted: &str) {
+    let mut writer = Watched::new(Vec::new(alloc));
+    let ended = write_figures(&mut writer, subject, 64, figures);
+    check(rt, writer, ended, wanted);
 }
 
 #[test]
 fn prints_figures_of_processors(rt: HostRuntime) {
-    let figures = ProcessorFigures {
-        plays: 3,
-        quanta: spread(3, 10, 3, 4),
-        idles: spread(3, 1, 0, 1),
-        ticks: spread(3, 90, 0, 90),
-        unused: spread(3, 6, 2, 2),
-    };
-    let mut writer = Watched::new(Vec::new(rt.alloc()));
-    let ended = write_processor_figures(&mut writer, 64, &figures);
     let wanted =
-        "processor 64 plays 3 quanta mean 3.333 least 3 most 4 idle mean 0.333 least 0 most 1 \
-        ticks mean 30 least 0 most 90 unused mean 2 least 2 most 2\n";
-    check(&rt, writer, ended, wanted);
+        "processor 64 plays 3 quanta mean 9.666 least 9 most 10 idle mean 3.333 least 3 most 4 \
+        ticks mean 30 least 0 most 90 unused mean 0.666 least 0 most 1\n";
+    let figures = of_actors(&rt);
+    check_lines(&rt, rt.alloc(), Subject::Processor, &figures, wanted);
 }
 
 const WHOLE_FIGURES: &str =
@@ -1086,31 +997,23 @@ const WHOLE_FIGURES_WITH_LIVES: &str =
     total ended mean 1.666 least 0 most 3 average mean 2.416 least 2.333 most 2.5 \
     longest mean 4.5 least 4 most 5\n";
 
-fn check_whole_figures(rt: &impl Abort, alloc: Global, lives: SpanFigures, wanted: &str) {
-    let figures = WholeFigures {
-        plays: 3,
-        turns: spread(3, 29, 9, 10),
-        quanta: spread(3, 10, 3, 4),
-        ticks: spread(3, 90, 0, 90),
-        refused: spread(3, 2, 0, 1),
-        left: spread(3, 0, 0, 0),
-        lives,
-    };
-    let mut writer = Watched::new(Vec::new(alloc));
-    let ended = write_whole_figures(&mut writer, &figures);
-    check(rt, writer, ended, wanted);
-}
-
 // In one play no thread has ended; in the others two had lived for 5 ticks, and three for 7: 2.5 and 2.333 on average.
 #[test]
 fn prints_whole_figures(rt: HostRuntime) {
-    let lives = SpanFigures {
-        count: spread(3, 5, 0, 3),
-        mean: spread(2, 4833, 2333, 2500),
-        longest: spread(2, 9, 4, 5),
-    };
-    check_whole_figures(&rt, rt.alloc(), no_spans(), WHOLE_FIGURES);
-    check_whole_figures(&rt, rt.alloc(), lives, WHOLE_FIGURES_WITH_LIVES);
+    let mut figures = of_actors(&rt);
+    figures.spreads[4] = spread(3, 0, 0, 0);
+    figures.spreads[5] = UNTOLD;
+    check_lines(&rt, rt.alloc(), Subject::Total, &figures, WHOLE_FIGURES);
+    figures.spreads[5] = spread(3, 5000, 0, 3000);
+    figures.spreads[6] = spread(2, 4833, 2333, 2500);
+    figures.spreads[7] = spread(2, 9000, 4000, 5000);
+    check_lines(
+        &rt,
+        rt.alloc(),
+        Subject::Total,
+        &figures,
+        WHOLE_FIGURES_WITH_LIVES,
+    );
 }
 
 #[test]
@@ -1118,65 +1021,6 @@ fn prints_seeds(rt: HostRuntime) {
     let mut writer = Watched::new(Vec::new(rt.alloc()));
     let ended = write_seeds(&mut writer, 1, 2147483646);
     check(&rt, writer, ended, "seeds 1 to 2147483646\n");
-}
-
-#[test]
-fn prints_timed_processors(rt: HostRuntime) {
-    let total = TimedProcessorTotal {
-        processor: 2,
-        quanta: 3,
-        idles: 4,
-        ticks: 5,
-        unused: 6,
-    };
-    let mut writer = Watched::new(Vec::new(rt.alloc()));
-    let ended = write_timed_processor_total(&mut writer, total);
-    let wanted = "processor 2 quanta 3 idle 4 ticks 5 unused 6\n";
-    check(&rt, writer, ended, wanted);
-}
-
-fn check_timed_end(rt: &impl Abort, alloc: Global, lives: PastLives, wanted: &str) {
-    let total = TimedWholeTotal {
-        turns: 1,
-        quanta: 2,
-        ticks: 3,
-        refused: 4,
-        left: 5,
-        lives,
-    };
-    let mut writer = Watched::new(Vec::new(alloc));
-    let ended = write_timed_whole_total(&mut writer, total);
-    check(rt, writer, ended, wanted);
-}
-
-/// No thread has ended.
-const NO_LIVES: PastLives = PastLives {
-    count: 0,
-    total: 0,
-    longest: 0,
-};
-
-/// Two threads that lived 5 ticks in all.
-const TWO_LIVES: PastLives = PastLives {
-    count: 2,
-    total: 5,
-    longest: 4,
-};
-
-#[test]
-fn prints_timed_ends(rt: HostRuntime) {
-    check_timed_end(
-        &rt,
-        rt.alloc(),
-        NO_LIVES,
-        "total turns 1 quanta 2 ticks 3 refused 4 left 5\n",
-    );
-    check_timed_end(
-        &rt,
-        rt.alloc(),
-        TWO_LIVES,
-        "total turns 1 quanta 2 ticks 3 refused 4 left 5 ended 2 mean 2.5 longest 4\n",
-    );
 }
 
 #[test]

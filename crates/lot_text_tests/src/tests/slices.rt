@@ -97,18 +97,7 @@ const EMPTY_LOOP: &[ScriptLine] = &[ScriptLine::Loop(3), ScriptLine::End];
 
 const EMPTY_LOOP_SLICES: &[&[Sliced]] = &[&[(5, 4, EXIT, 0)]];
 
-#[test]
-fn loops(rt: HostRuntime) {
-    check_slices(&rt, rt.alloc(), LOOP, LOOP_SLICES);
-    check_slices(&rt, rt.alloc(), EMPTY_LOOP, EMPTY_LOOP_SLICES);
-}
-
 const NO_LINE_SLICES: &[&[Sliced]] = &[&[(1, 0, EXIT, 0), (1000, 0, EXIT, 0)]];
-
-#[test]
-fn nothing_to_do(rt: HostRuntime) {
-    check_slices(&rt, rt.alloc(), &[], NO_LINE_SLICES);
-}
 
 const YIELDS: &[ScriptLine] = &[
     ScriptLine::Loop(1),
@@ -143,12 +132,6 @@ const EACH_TRAP_SLICES: &[&[Sliced]] = &[&[
     (1, 0, EXIT, 0),
 ]];
 
-#[test]
-fn traps(rt: HostRuntime) {
-    check_slices(&rt, rt.alloc(), YIELDS, YIELDS_SLICES);
-    check_slices(&rt, rt.alloc(), EACH_TRAP, EACH_TRAP_SLICES);
-}
-
 const ROUND_A_CALL: &[ScriptLine] = &[
     ScriptLine::Compute(5),
     ScriptLine::Trap(CALL_3),
@@ -160,11 +143,6 @@ const ROUND_A_CALL_SLICES: &[&[Sliced]] = &[
     &[(5, 5, None, 0), (1, 0, Some(CALL_3), 0), (2, 1, EXIT, 0)],
     &[(6, 5, Some(CALL_3), 0), (1000, 1, EXIT, 0)],
 ];
-
-#[test]
-fn budgets_round_a_trap(rt: HostRuntime) {
-    check_slices(&rt, rt.alloc(), ROUND_A_CALL, ROUND_A_CALL_SLICES);
-}
 
 const SUMS: &[ScriptLine] = &[
     ScriptLine::Set(4294967295),
@@ -185,9 +163,22 @@ const SUMS_SLICES: &[&[Sliced]] = &[&[
     (1000, 1, EXIT, 5),
 ]];
 
+/// Lines of scripts, and the slices of these.
+const SCRIPTS: &[(&[ScriptLine], &[&[Sliced]])] = &[
+    (LOOP, LOOP_SLICES),
+    (EMPTY_LOOP, EMPTY_LOOP_SLICES),
+    (&[], NO_LINE_SLICES),
+    (YIELDS, YIELDS_SLICES),
+    (EACH_TRAP, EACH_TRAP_SLICES),
+    (ROUND_A_CALL, ROUND_A_CALL_SLICES),
+    (SUMS, SUMS_SLICES),
+];
+
 #[test]
-fn accumulators(rt: HostRuntime) {
-    check_slices(&rt, rt.alloc(), SUMS, SUMS_SLICES);
+fn slices(rt: HostRuntime) {
+    for (lines, rows) in SCRIPTS {
+        check_slices(&rt, rt.alloc(), lines, rows);
+    }
 }
 
 const EIGHT_LOOPS_SLICES: &[Sliced] = &[

@@ -14,14 +14,8 @@ loop-place-preserved c =
       sym (passed-over tickets c.in-Some.place c.next.new.self off) ∙ ap (funding_edges tickets) (sym c.in-Some.ensures.steps) ∙ c.loop-place.invariant.3,
     )
 
-pub loop-place-init : goal.loop-place-init
-loop-place-init c = (tt, tt, c.requires.low, refl)
-
 pub overflow_cast-ticket : goal.overflow_cast-ticket
 overflow_cast-ticket c = let low = first-low c.loop-place.places c.in-Some.place c.next.new.self (2 ^ 32) c.in-Some.ensures.steps c.loop-place.invariant.2 in omega (arith, low)
 
 pub overflow_add-ticket : goal.overflow_add-ticket
 overflow_add-ticket c = let low = first-low c.loop-place.places c.in-Some.place c.next.new.self (2 ^ 32) c.in-Some.ensures.steps c.loop-place.invariant.2 in omega (arith, low)
-
-pub loop-place-smaller : goal.loop-place-smaller
-loop-place-smaller c = omega (arith, ap (length {A = ℕ}) c.in-Some.ensures.steps)

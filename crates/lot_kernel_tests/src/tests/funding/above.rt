@@ -1,10 +1,10 @@
 //! The currencies above a node, in a graph with an edge of each kind.
-ghost use Rattle.std.specs.Prelude.{◌≡◌, IsTrue};
-ghost use Rattle.lot_graph.specs.Graphs.{IsNodeOf};
+ghost use Rattle.std.specs.Prelude.{◌≡◌};
 ghost use Rattle.lot_graph.specs.Places.{layout_of};
 
-use super::graph::{add_thread, give, largest, lend, link, make_currency, wait};
-use crate::{is_mutex, is_thread};
+use super::graph::{Scene, Step, played};
+use crate::tests::nodes::is_node;
+use crate::tests::same::check_same_at;
 use lot_graph::{Above, Graph};
 use lot_machine::{Node, Target};
 use std::alloc::Global;
@@ -18,53 +18,27 @@ const TASK: u32 = 2;
 
 const BOB: u32 = 3;
 
-const CURRENCIES: &[u32] = &[ALICE, TASK, BOB];
-
-/// Makes the currencies, and as many threads.
-fn make_nodes(rt: &impl Abort, graph: &mut Graph) {
-    for currency in CURRENCIES {
-        assert!(rt; make_currency(rt, graph) == *currency);
-        add_thread(rt, graph);
-    }
-}
-
-/// Currencies, and the target of a ticket of each.
-const LINKS: &[(u32, Target)] = &[
-    (BASE, Target::Currency(ALICE)),
-    (BASE, Target::Currency(BOB)),
-    (ALICE, Target::Currency(TASK)),
-    (TASK, Target::Thread(1)),
-    (BOB, Target::Thread(3)),
-];
-
-fn make_edges(rt: &impl Abort, graph: &mut Graph) {
-    for (currency, target) in LINKS {
-        link(rt, graph, *currency, 1, *target);
-    }
-    assert!(rt; lend(rt, graph, 1, 2));
-    give(rt, graph, 1, 2);
-    assert!(rt; wait(rt, graph, 3, 1));
-}
-
 /// Base funds alice and bob. Alice funds task, which funds thread 1, and bob funds thread 3. Thread 1 lends to
 /// thread 2, which owns mutex 1, and thread 3 waits for the mutex.
-fn make_graph(rt: &impl Abort, alloc: Global) -> Graph {
-    let mut graph = largest(rt, alloc);
-    make_nodes(rt, &mut graph);
-    make_edges(rt, &mut graph);
-    graph
-}
-
-/// Whether the graph has this node.
-fn is_node(graph: &Graph, node: Node) -> bool
-    ensures { IsTrue result → IsNodeOf graph.now node }
-{
-    match node {
-        Node::Currency(currency) => graph.is_currency(currency),
-        Node::Thread(thread) => is_thread(graph, thread),
-        Node::Mutex(mutex) => is_mutex(graph, mutex),
-    }
-}
+const GRAPH: Scene<'static> = (
+    "above",
+    &[
+        Step::MakeCurrency(ALICE),
+        Step::AddThread,
+        Step::MakeCurrency(TASK),
+        Step::AddThread,
+        Step::MakeCurrency(BOB),
+        Step::AddThread,
+        Step::Link(BASE, Target::Currency(ALICE)),
+        Step::Link(BASE, Target::Currency(BOB)),
+        Step::Link(ALICE, Target::Currency(TASK)),
+        Step::Link(TASK, Target::Thread(1)),
+        Step::Link(BOB, Target::Thread(3)),
+        Step::Lend(1, 2, true),
+        Step::Give(1, 2),
+        Step::Wait(3, 1, true),
+    ],
+);
 
 /// Searches from an existing node.
 fn find(rt: &impl Abort, above: &mut Above, graph: &Graph, node: Node)
@@ -123,31 +97,21 @@ const ROWS: &[(Node, u32, bool)] = &[
     (Node::Thread(3), ALICE, false),
 ];
 
-fn check_found(rt: &impl Abort, row: usize, is_so: bool) {
-    assert!(rt; is_so, "row {row}");
-}
-
 fn check_row(
     rt: &impl Abort,
     alloc: Global,
     graph: &Graph,
-    row: usize,
     (node, currency, is): (Node, u32, bool),
 ) {
     // Every currency is above thread 2, so the second search must forget the first.
     let found = finds(rt, alloc, graph, (Node::Thread(2), node), currency);
-    check_found(rt, row, found == is);
-}
-
-fn check_rows(rt: &impl Abort, alloc: Global, graph: &Graph) {
-    for (i, row) in ROWS.iter().enumerate() {
-        check_row(rt, alloc, graph, i, *row);
-    }
+    check_same_at(rt, &(node, currency), &found, &is);
 }
 
 #[test]
 fn currencies_above_nodes(rt: HostRuntime) {
-    let alloc = rt.alloc();
-    let graph = make_graph(&rt, alloc);
-    check_rows(&rt, alloc, &graph);
+    let graph = played(&rt, rt.alloc(), GRAPH);
+    for row in ROWS {
+        check_row(&rt, rt.alloc(), &graph, *row);
+    }
 }

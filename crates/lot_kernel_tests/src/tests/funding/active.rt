@@ -2,7 +2,7 @@
 use super::required::{
     check_issue, check_may_lend, check_may_own, check_mutex, check_room, check_thread,
 };
-use crate::is_target;
+use crate::tests::nodes::is_target;
 use crate::tests::same::check_step;
 use lot_active::{Active, ends_of_edge};
 use lot_graph::Graph;
@@ -37,8 +37,8 @@ impl Model for Kept {
 }
 
 impl Kept {
-    fn new(rt: &impl Abort, alloc: Global, limits: Option<Limits>) -> Result<Self, AllocError> {
-        let limits = limits.expect(rt, "limits are not in bounds");
+    fn new(rt: &impl Abort, alloc: Global, sizes: Sizes) -> Result<Self, AllocError> {
+        let limits = Limits::new(sizes).expect(rt, "limits are not in bounds");
         let graph = Graph::new(alloc, &limits)?;
         let active = Active::new(alloc, &graph)?;
         Ok(Kept { graph, active })
@@ -151,10 +151,10 @@ impl Kept {
         }
     }
 
-    /// Takes the steps of a row in turn.
-    fn play_all(&mut self, rt: &impl Abort, steps: &[Step]) {
+    /// Takes the steps of a scene in turn.
+    fn play_all(&mut self, rt: &impl Abort, at: &str, steps: &[Step]) {
         for (i, step) in steps.iter().enumerate() {
-            check_step(rt, i, self.play(rt, *step));
+            check_step(rt, at, i, self.play(rt, *step));
         }
     }
 
@@ -207,41 +207,22 @@ enum Step {
     HavePassed(u64),
 }
 
-fn limits() -> Option<Limits> {
-    Limits::new(Sizes {
-        tickets: 64,
-        currencies: 16,
-        threads: 16,
-        ports: 4,
-        mutexes: 4,
-        processors: 4,
-        scripts: 4,
-        quantum: 1000,
-        unit: 1,
-        reuse: false,
-        plain_names: false,
-        without_compensation: false,
-        without_lending: false,
-        queued_lend: false,
-    })
-}
+const SMALL: Sizes = Sizes {
+    tickets: 64,
+    currencies: 16,
+    threads: 16,
+    mutexes: 4,
+    ..Sizes::SMALLEST
+};
 
-/// Plays a row within these limits, after this many threads and currencies were made.
-fn play_within(
-    rt: &impl Abort,
-    alloc: Global,
-    limits: Option<Limits>,
-    (threads, currencies): (u32, u32),
-    steps: &[Step],
-) {
-    let mut kept = Kept::new(rt, alloc, limits).expect(rt, "memory");
+/// What a scene shows, the sizes of its graph, its threads and currencies, and its steps.
+type Scene<'a> = (&'a str, Sizes, (u32, u32), &'a [Step]);
+
+/// Plays a scene.
+fn play(rt: &impl Abort, alloc: Global, (at, sizes, (threads, currencies), steps): Scene<'_>) {
+    let mut kept = Kept::new(rt, alloc, sizes).expect(rt, "memory");
     kept.add_nodes(rt, threads, currencies);
-    kept.play_all(rt, steps);
-}
-
-/// Plays a row after this many threads and currencies were made.
-fn play(rt: &impl Abort, alloc: Global, threads: u32, currencies: u32, steps: &[Step]) {
-    play_within(rt, alloc, limits(), (threads, currencies), steps)
+    kept.play_all(rt, at, steps);
 }
 
 const TWO_LEVELS: &[Step] = &[
@@ -272,11 +253,6 @@ const TWO_LEVELS: &[Step] = &[
     Step::IsAmount(0, 0),
 ];
 
-#[test]
-fn two_levels_all_blocked_one_wakes(rt: HostRuntime) {
-    play(&rt, rt.alloc(), 2, 2, TWO_LEVELS)
-}
-
 const DIAMOND: &[Step] = &[
     Step::Funding(0, 50, Target::Currency(1)),
     Step::Funding(1, 1, Target::Currency(2)),
@@ -301,11 +277,6 @@ const DIAMOND: &[Step] = &[
     Step::IsAmount(0, 0),
 ];
 
-#[test]
-fn diamond(rt: HostRuntime) {
-    play(&rt, rt.alloc(), 1, 4, DIAMOND)
-}
-
 const LAST_AND_ANOTHER: &[Step] = &[
     Step::Wake(1),
     Step::Funding(0, 60, Target::Currency(1)),
@@ -322,11 +293,7 @@ const LAST_AND_ANOTHER: &[Step] = &[
     Step::IsAmount(0, 60),
 ];
 
-#[test]
-fn the_last_goes_and_another_comes(rt: HostRuntime) {
-    play(&rt, rt.alloc(), 1, 1, LAST_AND_ANOTHER)
-}
-
+/// A ticket whose target is inactive counts in no amount until the target wakes.
 const FUNDED_BEFORE: &[Step] = &[
     Step::Funding(1, 3, Target::Thread(1)),
     Step::Wake(2),
@@ -341,12 +308,7 @@ const FUNDED_BEFORE: &[Step] = &[
     Step::IsAmount(0, 8),
 ];
 
-/// A ticket whose target is inactive counts in no amount until the target wakes.
-#[test]
-fn funded_before_it_wakes(rt: HostRuntime) {
-    play(&rt, rt.alloc(), 2, 1, FUNDED_BEFORE)
-}
-
+/// A change spreads along the edges into the nodes that it switches, once along each, and along no other edge.
 const ELSEWHERE: &[Step] = &[
     Step::Funding(0, 9, Target::Currency(1)),
     Step::Funding(1, 3, Target::Thread(1)),
@@ -369,12 +331,7 @@ const ELSEWHERE: &[Step] = &[
     Step::HavePassed(8),
 ];
 
-/// A change spreads along the edges into the nodes that it switches, once along each, and along no other edge.
-#[test]
-fn edges_elsewhere_stay(rt: HostRuntime) {
-    play(&rt, rt.alloc(), 3, 1, ELSEWHERE)
-}
-
+/// Two tickets of one currency fund the same thread: both count.
 const FUNDED_TWICE: &[Step] = &[
     Step::Funding(0, 9, Target::Currency(1)),
     Step::Funding(1, 3, Target::Thread(1)),
@@ -390,12 +347,7 @@ const FUNDED_TWICE: &[Step] = &[
     Step::IsAmount(1, 0),
 ];
 
-/// Two tickets of one currency fund the same thread: both count.
-#[test]
-fn funded_twice(rt: HostRuntime) {
-    play(&rt, rt.alloc(), 1, 1, FUNDED_TWICE)
-}
-
+/// A client calls a server: the client's tickets stay active while the server runs.
 const CALL: &[Step] = &[
     Step::Funding(0, 10, Target::Thread(2)),
     Step::Wake(2),
@@ -415,12 +367,7 @@ const CALL: &[Step] = &[
     Step::IsBacked(1, true),
 ];
 
-/// A client calls a server: the client's tickets stay active while the server runs.
-#[test]
-fn a_call(rt: HostRuntime) {
-    play(&rt, rt.alloc(), 2, 0, CALL)
-}
-
+/// The owner of a mutex blocks on a call: a thread that waits for the mutex stays backed, by the server.
 const OWNER_CALLS: &[Step] = &[
     Step::Funding(0, 10, Target::Thread(2)),
     Step::Take(1, 1),
@@ -446,12 +393,6 @@ const OWNER_CALLS: &[Step] = &[
     Step::IsBacked(2, false),
 ];
 
-/// The owner of a mutex blocks on a call: a thread that waits for the mutex stays backed, by the server.
-#[test]
-fn an_owner_calls(rt: HostRuntime) {
-    play(&rt, rt.alloc(), 3, 0, OWNER_CALLS)
-}
-
 /// Each currency funds the next, and the last one a thread.
 fn chain(rt: &impl Abort, kept: &mut Kept) {
     for last in 0..4096 {
@@ -474,15 +415,11 @@ const CHAIN: &[Step] = &[
     Step::IsAmount(4096, 0),
 ];
 
-fn play_chain(rt: &impl Abort, alloc: Global) {
-    let mut kept = Kept::new(rt, alloc, Limits::new(Sizes::LARGEST)).expect(rt, "memory");
-    chain(rt, &mut kept);
-    kept.play_all(rt, CHAIN);
-}
-
 #[test]
 fn chain_of_4096_on_and_off(rt: HostRuntime) {
-    play_chain(&rt, rt.alloc())
+    let mut kept = Kept::new(&rt, rt.alloc(), Sizes::LARGEST).expect(&rt, "memory");
+    chain(&rt, &mut kept);
+    kept.play_all(&rt, "chain", CHAIN);
 }
 
 const LARGEST: &[Step] = &[
@@ -503,17 +440,13 @@ fn fill(rt: &impl Abort, kept: &mut Kept) {
     }
 }
 
-fn play_filled(rt: &impl Abort, alloc: Global) {
-    let mut kept = Kept::new(rt, alloc, Limits::new(Sizes::LARGEST)).expect(rt, "memory");
-    kept.add_thread(rt);
-    fill(rt, &mut kept);
-    kept.play_all(rt, LARGEST);
-}
-
 /// As many tickets as the limit allows, each of the largest amount, fund one thread.
 #[test]
 fn largest_sizes(rt: HostRuntime) {
-    play_filled(&rt, rt.alloc())
+    let mut kept = Kept::new(&rt, rt.alloc(), Sizes::LARGEST).expect(&rt, "memory");
+    kept.add_thread(&rt);
+    fill(&rt, &mut kept);
+    kept.play_all(&rt, "largest", LARGEST);
 }
 
 const LEAST: &[Step] = &[
@@ -527,7 +460,31 @@ const LEAST: &[Step] = &[
     Step::IsAmount(0, 0),
 ];
 
+const SCENES: &[Scene<'static>] = &[
+    (
+        "two levels all blocked one wakes",
+        SMALL,
+        (2, 2),
+        TWO_LEVELS,
+    ),
+    ("diamond", SMALL, (1, 4), DIAMOND),
+    (
+        "the last goes and another comes",
+        SMALL,
+        (1, 1),
+        LAST_AND_ANOTHER,
+    ),
+    ("funded before it wakes", SMALL, (2, 1), FUNDED_BEFORE),
+    ("edges elsewhere stay", SMALL, (3, 1), ELSEWHERE),
+    ("funded twice", SMALL, (1, 1), FUNDED_TWICE),
+    ("a call", SMALL, (2, 0), CALL),
+    ("an owner calls", SMALL, (3, 0), OWNER_CALLS),
+    ("the least sizes", Sizes::SMALLEST, (1, 1), LEAST),
+];
+
 #[test]
-fn least_sizes(rt: HostRuntime) {
-    play_within(&rt, rt.alloc(), Limits::new(Sizes::SMALLEST), (1, 1), LEAST)
+fn activity(rt: HostRuntime) {
+    for scene in SCENES {
+        play(&rt, rt.alloc(), *scene);
+    }
 }

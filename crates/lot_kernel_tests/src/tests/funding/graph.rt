@@ -8,7 +8,7 @@ use super::required::{
     check_issue, check_lends_nothing, check_may_own, check_mutex, check_room, check_thread,
     may_lend,
 };
-use crate::is_target;
+use crate::tests::nodes::is_target;
 use crate::tests::same::check_step;
 use lot_graph::Graph;
 use lot_machine::{Edge, Lend, Limits, Node, Sizes, Target, Ticket};
@@ -16,19 +16,19 @@ use std::alloc::Global;
 use std::process::Abort;
 
 /// A graph of the largest tables.
-pub(super) fn largest(rt: &impl Abort, alloc: Global) -> Graph {
+fn largest(rt: &impl Abort, alloc: Global) -> Graph {
     let limits = Limits::new(Sizes::LARGEST);
     let limits = limits.expect(rt, "limits are not in bounds");
     Graph::new(alloc, &limits).expect(rt, "memory")
 }
 
-pub(super) fn add_thread(rt: &impl Abort, graph: &mut Graph) {
+fn add_thread(rt: &impl Abort, graph: &mut Graph) {
     check_room(rt, graph);
     graph.add_thread();
 }
 
 /// Makes one more currency.
-pub(super) fn make_currency(rt: &impl Abort, graph: &mut Graph) -> u32 {
+fn make_currency(rt: &impl Abort, graph: &mut Graph) -> u32 {
     graph
         .make_currency()
         .expect(rt, "there is no room for a currency")
@@ -92,13 +92,13 @@ fn try_lend(rt: &impl Abort, graph: &mut Graph, thread: u32, lend: Lend) -> bool
 }
 
 /// Makes a thread lend to another, or returns false if it would make a cycle.
-pub(super) fn lend(rt: &impl Abort, graph: &mut Graph, thread: u32, server: u32) -> bool {
+fn lend(rt: &impl Abort, graph: &mut Graph, thread: u32, server: u32) -> bool {
     check_thread(rt, graph, server);
     try_lend(rt, graph, thread, Lend::ToThread(server))
 }
 
 /// Makes a thread wait for a mutex, or returns false if it would make a cycle.
-pub(super) fn wait(rt: &impl Abort, graph: &mut Graph, thread: u32, mutex: u32) -> bool {
+fn wait(rt: &impl Abort, graph: &mut Graph, thread: u32, mutex: u32) -> bool {
     check_mutex(rt, graph, mutex);
     try_lend(rt, graph, thread, Lend::ToMutex(mutex))
 }
@@ -109,7 +109,7 @@ fn unlend(rt: &impl Abort, graph: &mut Graph, thread: u32) {
 }
 
 /// Gives a mutex to a thread.
-pub(super) fn give(rt: &impl Abort, graph: &mut Graph, mutex: u32, thread: u32) {
+fn give(rt: &impl Abort, graph: &mut Graph, mutex: u32, thread: u32) {
     check_mutex(rt, graph, mutex);
     graph.give_up_mutex(mutex);
     check_may_own(rt, graph, mutex, thread);
@@ -117,7 +117,7 @@ pub(super) fn give(rt: &impl Abort, graph: &mut Graph, mutex: u32, thread: u32) 
 }
 
 /// Makes a new ticket of a currency fund the target.
-pub(super) fn link(rt: &impl Abort, graph: &mut Graph, currency: u32, amount: u32, target: Target) {
+fn link(rt: &impl Abort, graph: &mut Graph, currency: u32, amount: u32, target: Target) {
     let ticket = issue(rt, graph, currency, amount);
     assert!(rt; fund(rt, graph, ticket, target));
 }
@@ -129,51 +129,27 @@ fn fill(rt: &impl Abort, graph: &mut Graph, thread: u32, count: u32) {
     }
 }
 
-/// Makes one more currency, which the one before funds.
-fn extend(rt: &impl Abort, graph: &mut Graph, last: u32) -> u32 {
-    let next = make_currency(rt, graph);
-    link(rt, graph, last, 1, Target::Currency(next));
-    next
-}
-
-/// Currencies, each of which funds the next. Returns the last.
-fn chain(rt: &impl Abort, graph: &mut Graph, length: u32) -> u32 {
-    let mut last = make_currency(rt, graph);
-    for _ in 1..length {
-        last = extend(rt, graph, last);
+/// Each of this many currencies but the last funds the next.
+fn chain(rt: &impl Abort, graph: &mut Graph, length: u32) {
+    for currency in 1..length {
+        link(rt, graph, currency, 1, Target::Currency(currency + 1));
     }
-    last
 }
 
-/// One currency funds two.
-fn split(rt: &impl Abort, graph: &mut Graph, top: u32, sides: (u32, u32)) {
-    link(rt, graph, top, 1, Target::Currency(sides.0));
-    link(rt, graph, top, 1, Target::Currency(sides.1));
+/// Two paths from a currency to another.
+fn diamond(rt: &impl Abort, graph: &mut Graph, top: u32, (left, right): (u32, u32), bottom: u32) {
+    link(rt, graph, top, 1, Target::Currency(left));
+    link(rt, graph, top, 1, Target::Currency(right));
+    link(rt, graph, left, 1, Target::Currency(bottom));
+    link(rt, graph, right, 1, Target::Currency(bottom));
 }
 
-/// Two currencies fund one.
-fn join(rt: &impl Abort, graph: &mut Graph, sides: (u32, u32), bottom: u32) {
-    link(rt, graph, sides.0, 1, Target::Currency(bottom));
-    link(rt, graph, sides.1, 1, Target::Currency(bottom));
-}
-
-/// Two paths from a currency to a new one, which it returns.
-fn diamond(rt: &impl Abort, graph: &mut Graph, top: u32) -> u32 {
-    let left = make_currency(rt, graph);
-    let right = make_currency(rt, graph);
-    let bottom = make_currency(rt, graph);
-    split(rt, graph, top, (left, right));
-    join(rt, graph, (left, right), bottom);
-    bottom
-}
-
-/// Diamonds, each below the one before. Returns the last currency.
-fn ladder(rt: &impl Abort, graph: &mut Graph, diamonds: u32) -> u32 {
-    let mut top = make_currency(rt, graph);
-    for _ in 0..diamonds {
-        top = diamond(rt, graph, top);
+/// 64 diamonds from the first currency on, each below the one before.
+fn ladder(rt: &impl Abort, graph: &mut Graph) {
+    for step in 0..64 {
+        let top = 3 * step + 1;
+        diamond(rt, graph, top, (top + 1, top + 2), top + 3);
     }
-    top
 }
 
 /// The amount of a ticket's edge, and 0 for any other.
@@ -280,7 +256,7 @@ fn is_owner(graph: &Graph, mutex: u32, owner: u32) -> bool {
 
 /// A step of a row: a change, or a fact that the graph must show.
 #[derive(Clone, Copy)]
-enum Step {
+pub(super) enum Step {
     AddThread,
     /// A new currency, which gets this number.
     MakeCurrency(u32),
@@ -304,10 +280,12 @@ enum Step {
     Give(u32, u32),
     /// A thread, and the number of base tickets of the largest amount that fund it.
     Fill(u32, u32),
-    /// A chain of this many currencies, and its last one.
-    Chain(u32, u32),
-    /// A ladder of this many diamonds, and its last currency.
-    Ladder(u32, u32),
+    /// A new ticket of a currency, which funds the target.
+    Link(u32, Target),
+    /// A chain of the first currencies, this many.
+    Chain(u32),
+    /// A ladder of 64 diamonds from the first currency on.
+    Ladder,
     NoCurrencyLeft,
     NoTicketLeft,
     Shows(Fact),
@@ -315,7 +293,7 @@ enum Step {
 
 /// A fact that a graph must show.
 #[derive(Clone, Copy)]
-enum Fact {
+pub(super) enum Fact {
     IsCurrency(u32, bool),
     IsUnused(u32, bool),
     IsUnfunded(u32, bool),
@@ -375,8 +353,6 @@ fn take(rt: &impl Abort, graph: &mut Graph, step: Step) -> bool {
         Step::FundCycle(ticket, target) => !fund(rt, graph, ticket, target),
         Step::Lend(thread, server, does) => lend(rt, graph, thread, server) == does,
         Step::Wait(thread, mutex, does) => wait(rt, graph, thread, mutex) == does,
-        Step::Chain(length, last) => chain(rt, graph, length) == last,
-        Step::Ladder(diamonds, last) => ladder(rt, graph, diamonds) == last,
         Step::NoCurrencyLeft => graph.make_currency().is_none(),
         Step::NoTicketLeft => try_issue(rt, graph, 0, 1).is_none(),
         Step::Shows(fact) => shows(rt, graph, fact),
@@ -399,21 +375,23 @@ fn change(rt: &impl Abort, graph: &mut Graph, step: Step) {
         Step::Unlend(thread) => unlend(rt, graph, thread),
         Step::Give(mutex, thread) => give(rt, graph, mutex, thread),
         Step::Fill(thread, count) => fill(rt, graph, thread, count),
+        Step::Link(currency, target) => link(rt, graph, currency, 1, target),
+        Step::Chain(length) => chain(rt, graph, length),
+        Step::Ladder => ladder(rt, graph),
         _ => {}
     }
 }
 
-/// Takes the steps in turn.
-fn take_all(rt: &impl Abort, graph: &mut Graph, steps: &[Step]) {
-    for (i, step) in steps.iter().enumerate() {
-        check_step(rt, i, take(rt, graph, *step));
-    }
-}
+/// What a scene shows, and its steps.
+pub(super) type Scene<'a> = (&'a str, &'a [Step]);
 
-/// Takes the steps in a new graph of the largest tables.
-fn play(rt: &impl Abort, alloc: Global, steps: &[Step]) {
+/// The graph of the largest tables after the steps of a scene.
+pub(super) fn played(rt: &impl Abort, alloc: Global, (at, steps): Scene<'_>) -> Graph {
     let mut graph = largest(rt, alloc);
-    take_all(rt, &mut graph, steps);
+    for (i, step) in steps.iter().enumerate() {
+        check_step(rt, at, i, take(rt, &mut graph, *step));
+    }
+    graph
 }
 
 const CYCLES: &[Step] = &[
@@ -434,11 +412,6 @@ const CYCLES: &[Step] = &[
     Step::Issue(2, 1, 5),
     Step::Fund(5, Target::Currency(4)),
 ];
-
-#[test]
-fn cycles_are_refused(rt: HostRuntime) {
-    play(&rt, rt.alloc(), CYCLES)
-}
 
 const REMOVED: &[Step] = &[
     Step::AddThread,
@@ -461,11 +434,6 @@ const REMOVED: &[Step] = &[
     Step::MakeCurrency(2),
 ];
 
-#[test]
-fn removed_numbers_are_gone(rt: HostRuntime) {
-    play(&rt, rt.alloc(), REMOVED)
-}
-
 const REISSUED: &[Step] = &[
     Step::AddThread,
     Step::MakeCurrency(1),
@@ -486,11 +454,6 @@ const REISSUED: &[Step] = &[
     Step::Shows(Fact::IsTicket(3, 1, 1, Target::Unfunded)),
 ];
 
-#[test]
-fn amounts_change_in_place(rt: HostRuntime) {
-    play(&rt, rt.alloc(), REISSUED)
-}
-
 const LARGEST: &[Step] = &[
     Step::AddThread,
     Step::Fill(1, 65535),
@@ -500,11 +463,6 @@ const LARGEST: &[Step] = &[
     Step::MakeCurrencies(4096),
     Step::NoCurrencyLeft,
 ];
-
-#[test]
-fn largest_sizes(rt: HostRuntime) {
-    play(&rt, rt.alloc(), LARGEST)
-}
 
 const BACKED: &[Step] = &[
     Step::MakeCurrency(1),
@@ -517,33 +475,20 @@ const BACKED: &[Step] = &[
     Step::Shows(Fact::Backing(1, 4294967307)),
 ];
 
-#[test]
-fn backing_of_a_currency(rt: HostRuntime) {
-    play(&rt, rt.alloc(), BACKED)
-}
-
 const CHAIN: &[Step] = &[
-    Step::Chain(4096, 4096),
+    Step::MakeCurrencies(4096),
+    Step::Chain(4096),
     Step::Issue(4096, 1, 4096),
     Step::FundCycle(4096, Target::Currency(1)),
     Step::Shows(Fact::IsUnfunded(4096, true)),
 ];
 
-#[test]
-fn chain_of_currencies(rt: HostRuntime) {
-    play(&rt, rt.alloc(), CHAIN)
-}
-
 const LADDER: &[Step] = &[
-    Step::Ladder(64, 193),
+    Step::MakeCurrencies(193),
+    Step::Ladder,
     Step::Issue(193, 1, 257),
     Step::FundCycle(257, Target::Currency(1)),
 ];
-
-#[test]
-fn ladder_of_diamonds(rt: HostRuntime) {
-    play(&rt, rt.alloc(), LADDER)
-}
 
 const LENT: &[Step] = &[
     Step::AddThread,
@@ -566,11 +511,6 @@ const LENT: &[Step] = &[
     Step::Shows(Fact::EdgesInto(3, 1)),
 ];
 
-#[test]
-fn lends_and_owners(rt: HostRuntime) {
-    play(&rt, rt.alloc(), LENT)
-}
-
 const EACH_KIND: &[Step] = &[
     Step::AddThread,
     Step::AddThread,
@@ -588,7 +528,21 @@ const EACH_KIND: &[Step] = &[
     Step::Shows(Fact::EdgesOutOf(Node::Mutex(4), 0)),
 ];
 
+const SCENES: &[Scene<'static>] = &[
+    ("cycles are refused", CYCLES),
+    ("removed numbers are gone", REMOVED),
+    ("amounts change in place", REISSUED),
+    ("largest sizes", LARGEST),
+    ("backing of a currency", BACKED),
+    ("chain of currencies", CHAIN),
+    ("ladder of diamonds", LADDER),
+    ("lends and owners", LENT),
+    ("edges out of each kind", EACH_KIND),
+];
+
 #[test]
-fn edges_out_of_each_kind(rt: HostRuntime) {
-    play(&rt, rt.alloc(), EACH_KIND)
+fn graphs(rt: HostRuntime) {
+    for scene in SCENES {
+        played(&rt, rt.alloc(), *scene);
+    }
 }

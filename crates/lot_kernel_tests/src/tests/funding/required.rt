@@ -6,7 +6,7 @@ ghost use Rattle.lot_machine.specs.Funding.{owner_of};
 ghost use Rattle.lot_machine.specs.Numbered.{at_number};
 ghost use Rattle.lot_graph.specs.Graphs.{IsBorrower, IsCurrency, IsMutex, IsNodeOf, IsThread, LendReaches, Reaches};
 
-use crate::{is_mutex, is_thread};
+use crate::tests::nodes::{is_mutex, is_thread};
 use lot_graph::Graph;
 use lot_machine::{Lend, Node};
 use std::process::Abort;

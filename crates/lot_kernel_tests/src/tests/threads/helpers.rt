@@ -6,10 +6,10 @@ ghost use Rattle.lot_queues.specs.QueueLists.{IsThere, IsNowhere};
 ghost use Rattle.lot_value.specs.Changing.{CanTarget};
 ghost use Rattle.lot_threads.specs.Threaded.{IsLiveIn, funding_in};
 
-use crate::is_target;
+use crate::tests::nodes::is_target;
 use lot_draw::Winner;
 use lot_machine::{
-    After, Limits, Name, Record, Status, Target, Thread, ThreadNumber, Ticket, TicketNumber,
+    After, Limits, Name, Record, Sizes, Status, Target, Thread, ThreadNumber, Ticket, TicketNumber,
 };
 use lot_queues::Queues;
 use lot_threads::Threads;
@@ -102,15 +102,15 @@ pub(crate) fn check_live(rt: &impl Abort, threads: &Threads, thread: ThreadNumbe
     assert!(rt; threads.is_live(thread));
 }
 
-/// Threads of these limits, none of them made.
-pub(crate) fn threads_of(rt: &impl Abort, alloc: Global, limits: Option<Limits>) -> Threads {
-    let limits = limits.expect(rt, "limits");
+/// Threads of these sizes, none of them made.
+pub(crate) fn threads_of(rt: &impl Abort, alloc: Global, sizes: Sizes) -> Threads {
+    let limits = Limits::new(sizes).expect(rt, "limits");
     Threads::new(alloc, &limits).expect(rt, "memory")
 }
 
 /// The queues for such threads.
-pub(crate) fn queues_of(rt: &impl Abort, alloc: Global, limits: &Limits) -> Queues {
-    let made = Queues::new(alloc, limits.ports, limits.mutexes, limits.threads);
+pub(crate) fn queues_of(rt: &impl Abort, alloc: Global, sizes: Sizes) -> Queues {
+    let made = Queues::new(alloc, sizes.ports, sizes.mutexes, sizes.threads);
     made.expect(rt, "memory")
 }
 
@@ -146,7 +146,7 @@ pub(crate) fn fund(
 }
 
 /// Gives a ticket without a target this target.
-fn put_target(rt: &impl Abort, threads: &mut Threads, ticket: u32, target: Target) {
+pub(crate) fn put_target(rt: &impl Abort, threads: &mut Threads, ticket: u32, target: Target) {
     assert!(rt; may_fund(threads, ticket, target));
     let found = threads.graph().ticket(ticket).expect(rt, "a ticket");
     threads.apply(GraphChange::PutTicket(ticket, Ticket { target, ..found }));

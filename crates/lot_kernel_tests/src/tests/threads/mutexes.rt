@@ -12,7 +12,7 @@ use super::helpers::{
 };
 use crate::tests::same::check_step;
 use lot_kept::Stack;
-use lot_machine::{Limits, MutexNumber, Outcome, Sizes, Status, ThreadNumber};
+use lot_machine::{MutexNumber, Outcome, Sizes, Status, ThreadNumber};
 use lot_mutex::{Lottery, are_waiting, have_same_owners, lock, pass_all_on, unlock};
 use lot_queues::Queues;
 use lot_threads::{Threads, TrapEffect};
@@ -200,45 +200,40 @@ fn take(rt: &impl Abort, scene: &mut Scene, step: Step) -> bool {
     }
 }
 
-/// Takes the steps in turn.
-fn take_all(rt: &impl Abort, scene: &mut Scene, steps: &[Step]) {
+/// Takes the steps of this scene in turn.
+fn take_all(rt: &impl Abort, at: &str, scene: &mut Scene, steps: &[Step]) {
     for (i, step) in steps.iter().enumerate() {
-        check_step(rt, i, take(rt, scene, *step));
+        check_step(rt, at, i, take(rt, scene, *step));
     }
 }
 
-/// Memory for a lottery among this many threads.
-fn lottery_of(rt: &impl Abort, alloc: Global, threads: u32) -> Lottery {
-    Lottery::new(alloc, threads).expect(rt, "memory")
-}
-
-/// Memory for a list of this many waiters.
-fn room_for(rt: &impl Abort, alloc: Global, threads: u32) -> Stack<u32> {
-    Stack::new(alloc, threads as usize).expect(rt, "memory")
-}
-
-/// Takes the steps among threads of these limits, none of them made.
-fn play(rt: &impl Abort, alloc: Global, limits: Option<Limits>, steps: &[Step]) {
-    let threads = threads_of(rt, alloc, limits);
-    let limits = limits.expect(rt, "limits");
-    let mut scene = Scene {
+/// A scene of these sizes.
+fn scene_of(rt: &impl Abort, alloc: Global, sizes: Sizes) -> Scene {
+    let threads = threads_of(rt, alloc, sizes);
+    let queues = queues_of(rt, alloc, sizes);
+    Scene {
         threads,
-        queues: queues_of(rt, alloc, &limits),
-        lottery: lottery_of(rt, alloc, limits.threads),
-        waiters: room_for(rt, alloc, limits.threads),
-    };
-    take_all(rt, &mut scene, steps)
+        queues,
+        lottery: Lottery::new(alloc, sizes.threads).expect(rt, "memory"),
+        waiters: Stack::new(alloc, sizes.threads as usize).expect(rt, "memory"),
+    }
 }
 
-fn small_limits() -> Option<Limits> {
-    Limits::new(Sizes {
-        tickets: 20,
-        threads: 5,
-        mutexes: 2,
-        ..Sizes::SMALLEST
-    })
+/// Takes the steps among threads of these sizes.
+fn play(rt: &impl Abort, alloc: Global, (at, sizes, steps): (&str, Sizes, &[Step])) {
+    let mut scene = scene_of(rt, alloc, sizes);
+    take_all(rt, at, &mut scene, steps)
 }
 
+const SMALL: Sizes = Sizes {
+    tickets: 20,
+    threads: 5,
+    mutexes: 2,
+    ..Sizes::SMALLEST
+};
+
+/// The lottery is among the waiters in the order of waiting, by their values. The others go on waiting and lend to the
+/// next owner, and the last owner frees the mutex.
 const PASSED: &[Step] = &[
     Step::AddThread(1),
     Step::AddThread(10),
@@ -261,13 +256,8 @@ const PASSED: &[Step] = &[
     Step::Owner(1, None),
 ];
 
-// The lottery is among the waiters in the order of waiting, by their values. The others go on waiting and lend to the
-// next owner, and the last owner frees the mutex.
-#[test]
-fn a_mutex_is_passed(rt: HostRuntime) {
-    play(&rt, rt.alloc(), small_limits(), PASSED)
-}
-
+/// The mutex of a killed owner passes to the thread that has waited longest, to which the other one then lends. Without
+/// waiters it is free.
 const LEFT: &[Step] = &[
     Step::AddThread(1),
     Step::AddThread(10),
@@ -285,13 +275,7 @@ const LEFT: &[Step] = &[
     Step::Wins(110, (3, 110, 111)),
 ];
 
-// The mutex of a killed owner passes to the thread that has waited longest, to which the other one then lends. Without
-// waiters it is free.
-#[test]
-fn mutexes_are_left(rt: HostRuntime) {
-    play(&rt, rt.alloc(), small_limits(), LEFT)
-}
-
+/// An unlock reads the edges into stale nodes before its lottery: two tickets, the lend and the owner.
 const UNSETTLED: &[Step] = &[
     Step::AddThread(1),
     Step::AddThread(10),
@@ -300,18 +284,7 @@ const UNSETTLED: &[Step] = &[
     Step::Passes(1, 2, 3, (2, 3, 10), 4),
 ];
 
-// An unlock reads the edges into stale nodes before its lottery: two tickets, the lend and the owner.
-#[test]
-fn an_unlock_settles(rt: HostRuntime) {
-    play(&rt, rt.alloc(), small_limits(), UNSETTLED)
-}
-
 const NO_MUTEX: &[Step] = &[Step::AddThread(3), Step::Wins(2, (1, 2, 3))];
-
-#[test]
-fn the_least_size(rt: HostRuntime) {
-    play(&rt, rt.alloc(), Limits::new(Sizes::SMALLEST), NO_MUTEX)
-}
 
 const LAST_MUTEX: &[Step] = &[
     Step::AddThread(3),
@@ -322,7 +295,18 @@ const LAST_MUTEX: &[Step] = &[
     Step::Owner(256, Some(2)),
 ];
 
+/// What a row shows, the sizes of its threads, and its steps.
+const ROWS: &[(&str, Sizes, &[Step])] = &[
+    ("a mutex is passed", SMALL, PASSED),
+    ("mutexes are left", SMALL, LEFT),
+    ("an unlock settles", SMALL, UNSETTLED),
+    ("the least size", Sizes::SMALLEST, NO_MUTEX),
+    ("the largest size", Sizes::LARGEST, LAST_MUTEX),
+];
+
 #[test]
-fn the_largest_size(rt: HostRuntime) {
-    play(&rt, rt.alloc(), Limits::new(Sizes::LARGEST), LAST_MUTEX)
+fn mutexes(rt: HostRuntime) {
+    for row in ROWS {
+        play(&rt, rt.alloc(), *row);
+    }
 }

@@ -4,7 +4,7 @@ use super::helpers::{
     queues_of, stands, threads_of,
 };
 use crate::tests::same::check_step;
-use lot_machine::{Limits, Outcome, PortNumber, Sizes, Status, ThreadNumber};
+use lot_machine::{Outcome, PortNumber, Sizes, Status, ThreadNumber};
 use lot_ports::{call, receive, release_clients, reply, serve};
 use lot_queues::Queues;
 use lot_threads::{Threads, TrapEffect};
@@ -164,31 +164,32 @@ fn take(rt: &impl Abort, threads: &mut Threads, queues: &mut Queues, step: Step)
     }
 }
 
-/// Takes the steps in turn.
-fn take_all(rt: &impl Abort, threads: &mut Threads, queues: &mut Queues, steps: &[Step]) {
+/// Takes the steps of this scene in turn.
+fn take_all(rt: &impl Abort, at: &str, threads: &mut Threads, queues: &mut Queues, steps: &[Step]) {
     for (i, step) in steps.iter().enumerate() {
-        check_step(rt, i, take(rt, threads, queues, *step));
+        check_step(rt, at, i, take(rt, threads, queues, *step));
     }
 }
 
-/// Takes the steps among threads of these limits, none of them made.
-fn play(rt: &impl Abort, alloc: Global, limits: Option<Limits>, steps: &[Step]) {
-    let mut threads = threads_of(rt, alloc, limits);
-    let limits = limits.expect(rt, "limits");
-    let mut queues = queues_of(rt, alloc, &limits);
-    take_all(rt, &mut threads, &mut queues, steps)
+/// What a scene shows, the sizes of its threads, and its steps.
+type Scene<'a> = (&'a str, Sizes, &'a [Step]);
+
+/// Plays a scene.
+fn play(rt: &impl Abort, alloc: Global, (at, sizes, steps): Scene<'_>) {
+    let mut threads = threads_of(rt, alloc, sizes);
+    let mut queues = queues_of(rt, alloc, sizes);
+    take_all(rt, at, &mut threads, &mut queues, steps)
 }
 
-fn small_limits() -> Option<Limits> {
-    Limits::new(Sizes {
-        tickets: 20,
-        currencies: 1,
-        threads: 4,
-        ports: 2,
-        ..Sizes::SMALLEST
-    })
-}
+const SMALL: Sizes = Sizes {
+    tickets: 20,
+    currencies: 1,
+    threads: 4,
+    ports: 2,
+    ..Sizes::SMALLEST
+};
 
+/// A server that waits is Ready at the call, and has its client's value too until it replies.
 const RECEIVED_FIRST: &[Step] = &[
     Step::AddThread(100),
     Step::AddThread(20),
@@ -205,12 +206,6 @@ const RECEIVED_FIRST: &[Step] = &[
     Step::Reply(2, 9, None),
 ];
 
-// A server that waits is Ready at the call, and has its client's value too until it replies.
-#[test]
-fn a_server_waits(rt: HostRuntime) {
-    play(&rt, rt.alloc(), small_limits(), RECEIVED_FIRST)
-}
-
 /// Call 5 of thread 2.
 const FROM_2: Outcome = Outcome::Received {
     client: 2,
@@ -223,6 +218,7 @@ const FROM_3: Outcome = Outcome::Received {
     number: 6,
 };
 
+/// A server takes calls in the order in which clients made them, and replies in the order in which it took them.
 const QUEUED_FIRST: &[Step] = &[
     Step::AddThread(1),
     Step::AddThread(10),
@@ -244,6 +240,7 @@ const QUEUED_FIRST: &[Step] = &[
     Step::Wins(109, (3, 109, 110)),
 ];
 
+/// A server replies and takes the next call, or waits, in one trap; without a client it does neither.
 const SERVED: &[Step] = &[
     Step::AddThread(1),
     Step::AddThread(10),
@@ -269,18 +266,7 @@ const SERVED: &[Step] = &[
     Step::Wins(109, (3, 109, 110)),
 ];
 
-// A server replies and takes the next call, or waits, in one trap; without a client it does neither.
-#[test]
-fn a_server_serves(rt: HostRuntime) {
-    play(&rt, rt.alloc(), small_limits(), SERVED)
-}
-
-// A server takes calls in the order in which clients made them, and replies in the order in which it took them.
-#[test]
-fn calls_wait(rt: HostRuntime) {
-    play(&rt, rt.alloc(), small_limits(), QUEUED_FIRST)
-}
-
+/// The calls of released clients return, with nothing delivered, and end their lends.
 const RELEASED: &[Step] = &[
     Step::AddThread(1),
     Step::AddThread(10),
@@ -300,22 +286,11 @@ const RELEASED: &[Step] = &[
     Step::Release(1),
 ];
 
-// The calls of released clients return, with nothing delivered, and end their lends.
-#[test]
-fn clients_are_released(rt: HostRuntime) {
-    play(&rt, rt.alloc(), small_limits(), RELEASED)
-}
-
 const NO_PORT: &[Step] = &[
     Step::AddThread(3),
     Step::Reply(1, 0, None),
     Step::Wins(2, (1, 2, 3)),
 ];
-
-#[test]
-fn the_least_size(rt: HostRuntime) {
-    play(&rt, rt.alloc(), Limits::new(Sizes::SMALLEST), NO_PORT)
-}
 
 const LAST_PORT: &[Step] = &[
     Step::AddThread(3),
@@ -324,7 +299,18 @@ const LAST_PORT: &[Step] = &[
     Step::Call(2, 256, 4294967295, Outcome::ServedBy(1)),
 ];
 
+const SCENES: &[Scene<'static>] = &[
+    ("a server waits", SMALL, RECEIVED_FIRST),
+    ("a server serves", SMALL, SERVED),
+    ("calls wait", SMALL, QUEUED_FIRST),
+    ("clients are released", SMALL, RELEASED),
+    ("the least size", Sizes::SMALLEST, NO_PORT),
+    ("the largest size", Sizes::LARGEST, LAST_PORT),
+];
+
 #[test]
-fn the_largest_size(rt: HostRuntime) {
-    play(&rt, rt.alloc(), Limits::new(Sizes::LARGEST), LAST_PORT)
+fn ports(rt: HostRuntime) {
+    for scene in SCENES {
+        play(&rt, rt.alloc(), *scene);
+    }
 }

@@ -176,14 +176,6 @@ const IN_ORDER: &[Queue] = &[
     Queue::Clients(5),
 ];
 
-#[test]
-fn the_longest_waiting_is_taken_first(rt: HostRuntime) {
-    let mut queues = full(&rt, rt.alloc());
-    for queue in IN_ORDER {
-        check_order(&rt, &mut queues, *queue);
-    }
-}
-
 /// One thread for each of these queues.
 const PUSHED: &[(Queue, u32)] = &[
     (Queue::Calls(1), 4),
@@ -250,14 +242,6 @@ fn check_call(rt: &impl Abort, queues: &mut Queues, caller: u32, number: u32) {
 /// Callers, and the numbers of their calls.
 const CALLS: &[(u32, u32)] = &[(2, 7), (1, 9), (2, 8)];
 
-#[test]
-fn a_call_has_the_number_sent_with_it(rt: HostRuntime) {
-    let mut queues = full(&rt, rt.alloc());
-    for (caller, number) in CALLS {
-        check_call(&rt, &mut queues, *caller, *number);
-    }
-}
-
 const WAITERS: &[u32] = &[2, 5, 1, 4];
 
 /// Indices of waiters in turn, and the threads taken from there.
@@ -269,16 +253,6 @@ fn check_places(rt: &impl Abort, alloc: Global, queues: &mut Queues) {
         let taken = take_waiter_at(rt, alloc, queues, 2, *place);
         check_same(rt, &taken, expected);
     }
-}
-
-#[test]
-fn a_waiter_is_taken_from_its_place(rt: HostRuntime) {
-    let alloc = rt.alloc();
-    let mut queues = full(&rt, alloc);
-    push_all(&rt, &mut queues, Queue::Waiters(2), WAITERS);
-    check_waiters(&rt, alloc, &queues, 2, WAITERS);
-    check_places(&rt, alloc, &mut queues);
-    check_waiters(&rt, alloc, &queues, 2, &[]);
 }
 
 /// Takes a thread out of its queue, if it is in one.
@@ -299,10 +273,12 @@ fn check_taken_out(rt: &impl Abort, queues: &mut Queues, queue: Queue) {
     check_all_taken(rt, queues, queue, TWO_TAKEN)
 }
 
+/// The longest waiting thread is taken first, and a thread may be taken out of its queue.
 #[test]
-fn a_thread_is_taken_out_of_its_queue(rt: HostRuntime) {
+fn queues_are_in_order(rt: HostRuntime) {
     let mut queues = full(&rt, rt.alloc());
     for queue in IN_ORDER {
+        check_order(&rt, &mut queues, *queue);
         check_taken_out(&rt, &mut queues, *queue);
     }
 }
@@ -315,10 +291,15 @@ fn check_first_waiter(rt: &impl Abort, queues: &Queues, mutex: u32, expected: Op
 
 const THREE_WAITERS: &[u32] = &[2, 5, 1];
 
+/// A waiter is taken from its place, or out of its queue.
 #[test]
-fn a_waiter_is_taken_out_of_its_queue(rt: HostRuntime) {
+fn waiters_are_taken(rt: HostRuntime) {
     let alloc = rt.alloc();
     let mut queues = full(&rt, alloc);
+    push_all(&rt, &mut queues, Queue::Waiters(2), WAITERS);
+    check_waiters(&rt, alloc, &queues, 2, WAITERS);
+    check_places(&rt, alloc, &mut queues);
+    check_waiters(&rt, alloc, &queues, 2, &[]);
     check_first_waiter(&rt, &queues, 2, None);
     push_all(&rt, &mut queues, Queue::Waiters(2), THREE_WAITERS);
     check_first_waiter(&rt, &queues, 2, Some(2));
@@ -345,9 +326,13 @@ const OWNERS: &[(Option<u32>, &[Option<u32>])] = &[
     (None, &[None, None, None]),
 ];
 
+/// A call has the number sent with it, and a mutex an owner or none.
 #[test]
-fn a_mutex_has_an_owner_or_is_free(rt: HostRuntime) {
+fn calls_and_owners(rt: HostRuntime) {
     let mut queues = full(&rt, rt.alloc());
+    for (caller, number) in CALLS {
+        check_call(&rt, &mut queues, *caller, *number);
+    }
     for (owner, owners) in OWNERS {
         check_owner(&rt, &mut queues, *owner, owners);
     }

@@ -1,7 +1,14 @@
-use Rattle.lot_system.proofs.Common.{IsAtEnd, subst, sym, time-end}
+use Rattle.lot_system.proofs.Common.{Currency, Processor, Thread, Total}
 use Rattle.lot_system.proofs.figures.add_play.Goals as goal
 
-pub add_timed-requires-clause-end : goal.add_timed-requires-clause-end
-add_timed-requires-clause-end c =
-    subst (λ seen. IsAtEnd seen c.in-InTime.timekeeper) (sym c.add_threads.ensures.same)
-    (time-end c.args.system.now c.in-InTime.timekeeper (rw c.in-InTime.is at c.requires.over.there) (rw c.in-InTime.is at c.requires.over.ended))
+pub add_subjects-requires-clause-count : goal.add_subjects-requires-clause-count
+add_subjects-requires-clause-count c = c.requires.many.are Thread
+
+pub add_subjects-requires-2-clause-count : goal.add_subjects-requires-2-clause-count
+add_subjects-requires-2-clause-count c = c.requires.many.are Currency
+
+pub add_subjects-requires-3-clause-count : goal.add_subjects-requires-3-clause-count
+add_subjects-requires-3-clause-count c = c.requires.many.are Processor
+
+pub add_subjects-requires-4-clause-count : goal.add_subjects-requires-4-clause-count
+add_subjects-requires-4-clause-count c = c.requires.many.are Total

@@ -1,4 +1,4 @@
-use Rattle.lot_system.proofs.Lemmas.{Err, ap, arith, first_number, given_count, range-more, range-stops, row_line, rules, ◌+◌, ◌∙◌, ◌≡◌}
+use Rattle.lot_system.proofs.Lemmas.{Err, ap, arith, first_number, given_count, range-more, range-stops, row_line, rules, ◌+◌, ◌≡◌}
 use Rattle.lot_system.proofs.listing.write_rows.Goals as goal
 
 pub returns-in_err-write_row : goal.returns-in_err-write_row

@@ -1,9 +1,9 @@
-use Rattle.lot_system.proofs.Lemmas.{Err, List, ReportForm, State, arith, length, option_map_or, range-more, range-stops, rules, thread_row, thread_text, ℕ, [], ◌+◌, ◌∙◌, ◌≡◌}
+use Rattle.lot_system.proofs.Lemmas.{Err, List, Layout, State, arith, length, option_map_or, range-more, range-stops, rules, thread_row, thread_text, ℕ, [], ◌+◌, ◌≡◌}
 use Rattle.lot_system.proofs.report.write_threads.Goals as goal
 
 -- the line or row of the thread with a number, if there is one
-abbrev line : ReportForm → State → ℕ → List ℕ
-line form s n = option_map_or (thread_text form n) (thread_row s n) []
+abbrev line : Layout → State → ℕ → List ℕ
+line layout s n = option_map_or (thread_text layout n) (thread_row s n) []
 
 pub returns-in_err-write_thread : goal.returns-in_err-write_thread
 returns-in_err-write_thread g c =
@@ -13,7 +13,7 @@ returns-in_err-write_thread g c =
     rw is (
       told.0,
       told.1,
-      range-stops (g.W.Write.contents c.args.writer.now.inner) (g.W.Write.contents c.loop-place.writer.inner) (g.W.Write.contents c.write_thread.new.writer.inner) (line c.args.form c.args.settled.kernel.now.state) 1 c.loop-place.place
+      range-stops (g.W.Write.contents c.args.writer.now.inner) (g.W.Write.contents c.loop-place.writer.inner) (g.W.Write.contents c.write_thread.new.writer.inner) (line c.args.layout c.args.settled.kernel.now.state) 1 c.loop-place.place
           (length c.args.settled.kernel.now.state.records) (c.loop-place.place + 1) (omega (arith, c.loop-place-test.true, c.thread_count-place-end.ensures)) (omega arith) i.bytes told.2,
     )
 
@@ -23,5 +23,5 @@ loop-place-preserved g c =
     let told = c.in_ok-write_thread.ensures in
     record {
       working = told.0;
-      bytes = range-more (g.W.Write.contents c.args.writer.now.inner) (g.W.Write.contents c.loop-place.writer.inner) (g.W.Write.contents c.write_thread.new.writer.inner) (line c.args.form c.args.settled.kernel.now.state) 1 c.loop-place.place (c.loop-place.place + 1) (omega arith) i.bytes told.1;
+      bytes = range-more (g.W.Write.contents c.args.writer.now.inner) (g.W.Write.contents c.loop-place.writer.inner) (g.W.Write.contents c.write_thread.new.writer.inner) (line c.args.layout c.args.settled.kernel.now.state) 1 c.loop-place.place (c.loop-place.place + 1) (omega arith) i.bytes told.1;
     }

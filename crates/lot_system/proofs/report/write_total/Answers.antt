@@ -5,4 +5,4 @@ pub returns : goal.returns
 returns g c =
     let quanta = ap (λ (t : Counts). t.quanta) c.total-counts.ensures in
     let ticks = ap (λ (t : Counts). t.ticks) c.total-counts.ensures in
-    rw (← quanta, ← ticks, ← c.turn_count.ensures.world) c.write_whole_total.ensures
+    rw (← quanta, ← ticks, ← c.turn_count.ensures.world, ← c.number.ensures, ← c.number-2.ensures, ← c.number-3.ensures, ← c.no_name.ensures) c.write_told.ensures

@@ -1,4 +1,4 @@
-use Rattle.lot_system.proofs.Lemmas.{HasMade, IsInOrder, IsOver, Seen, ap, changed-as, currency-is, over-at-end, processor-is, program_turns, stopped-at-end, stopped_in, subst, sym, thread-is, whole-is, ◌||◌, ◌∙◌}
+use Rattle.lot_system.proofs.Lemmas.{HasMade, all-are, IsInOrder, IsOver, Seen, ap, over-at-end, program_turns, stopped-at-end, stopped_in, subst, sym, ◌||◌, ◌∙◌}
 use Rattle.lot_system.proofs.seeds.add_playback.Goals as goal
 
 pub add_play-requires-clause-over : goal.add_play-requires-clause-over
@@ -18,14 +18,7 @@ returns-clause-played c =
     let parts = c.into_parts-system.ensures in
     let has : HasMade program (program_turns program) seen = subst (HasMade program (program_turns program)) (sym parts.system) c.note_turns.ensures.made in
     let over : IsOver seen order = over-at-end c.note_turns.new.playback seen order parts.system parts.made parts.order c.note_turns.ensures.ended in
-    let old = c.args.all.now in
-    let new = c.add_play.new.all in
-    record {
-      threads = changed-as _ _ old.threads.items new.threads.items (λ t figures. thread-is program seen has order t figures over.there) c.add_play.ensures.threads;
-      currencies = changed-as _ _ old.currencies.items new.currencies.items (λ n figures. currency-is program seen has order n figures over.there) c.add_play.ensures.currencies;
-      processors = changed-as _ _ old.processors.items new.processors.items (λ p figures. processor-is program seen has order p figures over) c.add_play.ensures.processors;
-      whole = c.add_play.ensures.whole ∙ whole-is program seen has order old.whole over;
-    }
+    all-are program seen has order c.args.all.now c.add_play.new.all over c.add_play.ensures.added
 
 pub returns-clause-stopped : goal.returns-clause-stopped
 returns-clause-stopped c =

@@ -1,5 +1,8 @@
-use Rattle.lot_system.proofs.Lemmas.{Some, Warnings, all-more, all-seeds, ap, ends_refused, with_seed, [], ◌||◌, ◌∙◌}
+use Rattle.lot_system.proofs.Lemmas.{Some, Warnings, all-more, all-seeds, ap, ends_refused, many-are, with_seed, [], ◌||◌, ◌∙◌}
 use Rattle.lot_system.proofs.seeds.play_each.Goals as goal
+
+pub play_with-requires : goal.play_with-requires
+play_with-requires c = record { many = many-are c.args.program.now [] c.args.all.now c.requires }
 
 pub play_others-requires-clause-first : goal.play_others-requires-clause-first
 play_others-requires-clause-first c =

@@ -1,4 +1,4 @@
-use Rattle.lot_system.proofs.Lemmas.{AreAllFigures, List, Some, all-more, any-seed, any_ends_refused, ap, arith, between-first, between-more, ends_refused, first-seed, range_with_len, seeds_between, subst, with_seed, ℕ, [], ◌++◌, ◌+◌, ◌-◌, ◌||◌, ◌∙◌, ◌∷◌, ◌≡◌}
+use Rattle.lot_system.proofs.Lemmas.{AreAllFigures, List, Some, all-more, any-seed, any_ends_refused, ap, arith, between-first, between-more, ends_refused, first-seed, many-are, range_with_len, seeds_between, subst, with_seed, ℕ, [], ◌++◌, ◌+◌, ◌-◌, ◌||◌, ◌∙◌, ◌∷◌, ◌≡◌}
 use Rattle.lot_system.proofs.seeds.play_others.Goals as goal
 
 pub loop-number-init : goal.loop-number-init
@@ -14,6 +14,9 @@ loop-number-init c =
           ap (λ b. ends_refused (with_seed (Some first) program) || b) c.requires.unsaid ∙ first-seed program first
           ∙ ap (any_ends_refused program) (between-first first (c.number-number.result + 1 - 1) (omega (arith, number)));
     }
+
+pub play_with-requires : goal.play_with-requires
+play_with-requires c = record { many = many-are c.args.program.now (seeds_between c.args.seeds.now.first (c.loop-number.number - 1)) c.loop-number.all c.loop-number.invariant.are }
 
 pub loop-number-preserved : goal.loop-number-preserved
 loop-number-preserved c =

@@ -1,15 +1,10 @@
 -- The play is one of the program with the seed.
-use Rattle.lot_system.proofs.Common.{AreOverOneMore, OnOk, Program, ap, ends_refused, subst, sym, ◌||◌, ◌∙◌, ◌≡◌}
+use Rattle.lot_system.proofs.SeedFacts.{seeded-many}
+use Rattle.lot_system.proofs.Common.{AreMany, AreOverOneMore, OnOk, Program, ends_refused, subst, sym, ◌||◌, ◌≡◌}
 use Rattle.lot_system.proofs.seeds.play_with.Goals as goal
 
-pub play_seeded-requires-clause-threads : goal.play_seeded-requires-clause-threads
-play_seeded-requires-clause-threads c = c.requires.threads ∙ ap (λ (p : Program). p.limits.threads) (sym c.in_ok-program.ensures)
-
-pub play_seeded-requires-clause-currencies : goal.play_seeded-requires-clause-currencies
-play_seeded-requires-clause-currencies c = c.requires.currencies ∙ ap (λ (p : Program). p.limits.currencies) (sym c.in_ok-program.ensures)
-
-pub play_seeded-requires-clause-processors : goal.play_seeded-requires-clause-processors
-play_seeded-requires-clause-processors c = c.requires.processors ∙ ap (λ (p : Program). p.limits.processors) (sym c.in_ok-program.ensures)
+pub play_seeded-requires : goal.play_seeded-requires
+play_seeded-requires c = record { many = subst (λ (p : Program). AreMany p c.args.all.now) (sym c.in_ok-program.ensures) (seeded-many c.args.program.now c.args.seed c.args.all.now c.requires.many) }
 
 pub returns-clause-played : goal.returns-clause-played
 returns-clause-played c =

@@ -1,12 +1,13 @@
 -- The first line, and then the others.
-use Rattle.lot_system.proofs.Common.{Appends, Begins, Err, FiguresTable, List, Option, Program, ReportForm, Thread, Written, ap, appends-both, begins-after, begins-front, others_text, rules, seeds_between, seeds_heading, seeds_report, subjects_text, subst, table_of, writes-flushed, ℕ, ◌++◌, ◌≡◌}
+use Rattle.lot_system.proofs.Common.{Appends, Begins, Err, List, Option, Program, ReportForm, Written, ap, appends-both, begins-after, begins-front, rules, seeds_between, seeds_heading, seeds_report, flat_map, subjects_in, subjects_over, subst, table_of, writes-flushed, ℕ, ◌++◌, ◌≡◌}
+use Rattle.lot_simulation.specs.declared.columns.Table as tables
 use Rattle.lot_system.proofs.seeds.write_report.Goals as goal
 
 -- the lines after the first, or the rows
-abbrev lines : Option FiguresTable → Program → ℕ → ℕ → List ℕ
-lines table program first last = subjects_text table Thread program (seeds_between first last) ++ others_text table program (seeds_between first last)
+abbrev lines : Option tables.Table → Program → ℕ → ℕ → List ℕ
+lines table program first last = flat_map (subjects_over table program (seeds_between first last)) (subjects_in table)
 
-text-is : (form : ReportForm) (program : Program) (first last : ℕ) (table : Option FiguresTable) → table ≡ table_of form program.duration → (seeds_heading table first last ++ lines table program first last) ≡ seeds_report form first last program
+text-is : (form : ReportForm) (program : Program) (first last : ℕ) (table : Option tables.Table) → table ≡ table_of form program.duration → (seeds_heading table first last ++ lines table program first last) ≡ seeds_report form first last program
 text-is form program first last table is = ap (λ t. seeds_heading t first last ++ lines t program first last) is
 
 pub returns-in_err-write_heading-clause-text : goal.returns-in_err-write_heading-clause-text

@@ -1,7 +1,7 @@
 use Rattle.lot_system.proofs.Common.{Appends, false, figures_over, figures_text, flat_map, range_with_len, seeds_between, ◌≡◌}
 use Rattle.lot_system.proofs.seeds.write_subjects.Given as goal
 
--- the lines or rows of the threads or currencies passed so far are written
+-- the lines or rows of the subjects passed so far are written
 abbrev pub invariant-loop-place : goal.invariant-loop-place
 invariant-loop-place g l = record {
   working : l.writer.failed ≡ false;

@@ -26,45 +26,59 @@ fn check_shares(
     check_same_at(rt, &input, &found, &Ok((played, true)));
 }
 
-#[test]
-fn tables(rt: HostRuntime) {
-    let alloc = rt.alloc();
-    let done = Played::Done;
-    let ticks = "tick,a,b\n0,0,0\n1,1,0\n2,2,0\n3,3,0\n4,4,0\n";
-    check_shares(&rt, alloc, Measure::Ticks, SCHEDULED, done, ticks);
-    let draws = "tick,a,b\n0,1,0\n1,1,0\n2,2,0\n3,2,0\n4,2,0\n";
-    check_shares(&rt, alloc, Measure::Draws, SCHEDULED, done, draws);
-    check_shares(&rt, alloc, Measure::Ticks, "lottery 1\n", done, "tick\n0\n");
-    let refused = "refused line 1 50 BadHeader\n";
-    check_shares(
-        &rt,
-        alloc,
+/// What a table measures, its input, how it is played, and the table. A removed thread keeps its column, with its number
+/// as the name.
+const TABLES: &[(Measure, &str, Played, &str)] = &[
+    (
+        Measure::Ticks,
+        SCHEDULED,
+        Played::Done,
+        "tick,a,b\n0,0,0\n1,1,0\n2,2,0\n3,3,0\n4,4,0\n",
+    ),
+    (
+        Measure::Draws,
+        SCHEDULED,
+        Played::Done,
+        "tick,a,b\n0,1,0\n1,1,0\n2,2,0\n3,2,0\n4,2,0\n",
+    ),
+    (Measure::Ticks, "lottery 1\n", Played::Done, "tick\n0\n"),
+    (
         Measure::Ticks,
         "lottery 9\n",
         Played::Refused,
-        refused,
-    );
-}
+        "refused line 1 50 BadHeader\n",
+    ),
+    (
+        Measure::Ticks,
+        COMES_LATER,
+        Played::Done,
+        "tick,a\n0,0\n1,0\n2,0\n3,1\n4,2\n5,3\n6,4\n7,5\n8,6\n9,7\n",
+    ),
+    (
+        Measure::Draws,
+        COMES_LATER,
+        Played::Done,
+        "tick,a\n0,0\n1,0\n2,1\n3,1\n4,1\n5,1\n6,2\n7,2\n8,2\n9,2\n",
+    ),
+    (
+        Measure::Ticks,
+        REMOVED,
+        Played::Done,
+        "tick,1,a\n0,0,0\n1,1,0\n2,2,0\n3,2,0\n4,2,1\n5,2,2\n",
+    ),
+    (
+        Measure::Draws,
+        REMOVED,
+        Played::Done,
+        "tick,1,a\n0,1,0\n1,1,0\n2,1,0\n3,1,1\n4,1,1\n5,1,1\n",
+    ),
+];
 
 #[test]
-fn tables_in_time(rt: HostRuntime) {
-    let alloc = rt.alloc();
-    let done = Played::Done;
-    let ticks = "tick,a\n0,0\n1,0\n2,0\n3,1\n4,2\n5,3\n6,4\n7,5\n8,6\n9,7\n";
-    check_shares(&rt, alloc, Measure::Ticks, COMES_LATER, done, ticks);
-    let draws = "tick,a\n0,0\n1,0\n2,1\n3,1\n4,1\n5,1\n6,2\n7,2\n8,2\n9,2\n";
-    check_shares(&rt, alloc, Measure::Draws, COMES_LATER, done, draws);
-}
-
-/// A removed thread keeps its column, with its number as the name.
-#[test]
-fn tables_with_removed(rt: HostRuntime) {
-    let alloc = rt.alloc();
-    let done = Played::Done;
-    let ticks = "tick,1,a\n0,0,0\n1,1,0\n2,2,0\n3,2,0\n4,2,1\n5,2,2\n";
-    check_shares(&rt, alloc, Measure::Ticks, REMOVED, done, ticks);
-    let draws = "tick,1,a\n0,1,0\n1,1,0\n2,1,0\n3,1,1\n4,1,1\n5,1,1\n";
-    check_shares(&rt, alloc, Measure::Draws, REMOVED, done, draws);
+fn tables(rt: HostRuntime) {
+    for (measure, input, played, table) in TABLES {
+        check_shares(&rt, rt.alloc(), *measure, input, *played, table);
+    }
 }
 
 /// The picture of the input, if it was drawn.
@@ -91,18 +105,14 @@ const PARTS: &[&str] = &[
     "<text x='788' y='460.0' dy='4'>b 0.0%</text>\n",
 ];
 
-#[test]
-fn pictures(rt: HostRuntime) {
-    check_parts(&rt, rt.alloc(), SCHEDULED, PARTS)
-}
-
 const PARTS_WITH_REMOVED: &[&str] = &[
     "<text x='788' y='60.0' dy='4'>1 50.0%</text>\n",
     "<text x='788' y='76.0' dy='4'>a 50.0%</text>\n",
 ];
 
 #[test]
-fn pictures_with_removed(rt: HostRuntime) {
+fn pictures(rt: HostRuntime) {
+    check_parts(&rt, rt.alloc(), SCHEDULED, PARTS);
     check_parts(&rt, rt.alloc(), REMOVED, PARTS_WITH_REMOVED)
 }
 

@@ -61,13 +61,6 @@ const BODY_LINES: &[&str] = &[
     "mkcur",
 ];
 
-#[test]
-fn body_lines(rt: HostRuntime) {
-    check_lines(&rt, rt.alloc(), SECOND, BODY_LINES, Some(10));
-    let input = b"lottery 3\nfor 5\nat 3\nat 2\nmkcur a\n";
-    check(&rt, rt.alloc(), input, Some(21));
-}
-
 /// Lines of the header, lines that declare a name, also misspelt, words of scripts, and words of other formats.
 const LINES_WITH_OTHERS: &[&str] = &[
     "quantum 0",
@@ -87,11 +80,7 @@ const LINES_WITH_OTHERS: &[&str] = &[
     "runs 0 1",
 ];
 
-#[test]
-fn lines_with_others(rt: HostRuntime) {
-    check_lines(&rt, rt.alloc(), SECOND, LINES_WITH_OTHERS, None)
-}
-
+/// Lines after one that names a ticket may have the name.
 const SKIPPED_TIMED: &[&str] = &[
     "mktkt 05 base",
     "mktk 5 base",
@@ -107,16 +96,6 @@ const KEPT_TIMED: &[&str] = &[
     "strct",
 ];
 
-// Lines after one that names a ticket may have the name.
-#[test]
-fn lines_that_name_tickets(rt: HostRuntime) {
-    let alloc = rt.alloc();
-    check_lines(&rt, alloc, TIMED, SKIPPED_TIMED, Some(16));
-    check_lines(&rt, alloc, TIMED, KEPT_TIMED, None);
-    check_lines(&rt, alloc, SECOND, &["mktkt 5 base as"], Some(10));
-    check_lines(&rt, alloc, SECOND, &["mktkt 5 base as gift"], None)
-}
-
 const INPUTS_WITHOUT: &[&[u8]] = &[
     b"",
     b"mktk 5 base\n",
@@ -129,13 +108,6 @@ const INPUTS_WITHOUT: &[&[u8]] = &[
     b"lottery 1\nmutex m\nmutex m\n",
     b"lottery 1\nmkcur \xff\n",
 ];
-
-#[test]
-fn inputs_without(rt: HostRuntime) {
-    for input in INPUTS_WITHOUT {
-        check(&rt, rt.alloc(), input, None);
-    }
-}
 
 const SKIPPED_STEPS: &[&str] = &[
     "compute 0",
@@ -159,13 +131,6 @@ const KEPT_STEPS: &[&str] = &[
     "sleep 5",
 ];
 
-#[test]
-fn steps(rt: HostRuntime) {
-    let alloc = rt.alloc();
-    check_lines(&rt, alloc, STEP, SKIPPED_STEPS, Some(19));
-    check_lines(&rt, alloc, STEP, KEPT_STEPS, None);
-}
-
 const SKIPPED_STEP_LINES: &[&str] = &[
     "yield lock n compute 5",
     "comptue 5 yield",
@@ -181,11 +146,29 @@ const KEPT_STEP_LINES: &[&str] = &[
     "loop 2 endscript",
 ];
 
+/// The texts round lines, the lines, and the index of each line to skip.
+const LINES: &[(Around, &[&str], Option<usize>)] = &[
+    (SECOND, BODY_LINES, Some(10)),
+    (SECOND, LINES_WITH_OTHERS, None),
+    (TIMED, &["at 3\nat 2\nmkcur a"], Some(21)),
+    (TIMED, SKIPPED_TIMED, Some(16)),
+    (TIMED, KEPT_TIMED, None),
+    (SECOND, &["mktkt 5 base as"], Some(10)),
+    (SECOND, &["mktkt 5 base as gift"], None),
+    (STEP, SKIPPED_STEPS, Some(19)),
+    (STEP, KEPT_STEPS, None),
+    (STEPS, SKIPPED_STEP_LINES, Some(33)),
+    (STEPS, KEPT_STEP_LINES, None),
+];
+
 #[test]
-fn steps_of_one_line(rt: HostRuntime) {
-    let alloc = rt.alloc();
-    check_lines(&rt, alloc, STEPS, SKIPPED_STEP_LINES, Some(33));
-    check_lines(&rt, alloc, STEPS, KEPT_STEP_LINES, None);
+fn lines_to_skip(rt: HostRuntime) {
+    for (around, lines, expected) in LINES {
+        check_lines(&rt, rt.alloc(), *around, lines, *expected);
+    }
+    for input in INPUTS_WITHOUT {
+        check(&rt, rt.alloc(), input, None);
+    }
 }
 
 /// The front, and then this many copies of the text.

@@ -51,6 +51,7 @@ fn check_commands<H: Abort>(rt: &H, alloc: Global, rows: &[&str]) {
     }
 }
 
+/// Lines 1 to 6 are the header and the scripts.
 const UNKNOWN_NAMES: &[&str] = &[
     "mkcur alice\nmktkt 5 base\nfund 1 alcie\n -> \
     line 9: the command was refused: no currency and no thread has the name 'alcie'; did you mean 'alice'?\n",
@@ -66,12 +67,7 @@ const UNKNOWN_NAMES: &[&str] = &[
     line 8: the command was refused: no script of an earlier line has the name 'spinn'; did you mean 'spin'?\n",
 ];
 
-// Lines 1 to 6 are the header and the scripts.
-#[test]
-fn unknown_names(rt: HostRuntime) {
-    check_commands(&rt, rt.alloc(), UNKNOWN_NAMES)
-}
-
+/// A currency is no thread, and a thread no currency, so neither is suggested for the other. Base can't be funded.
 const NO_NAME_IS_NEAR: &[&str] = &[
     "mkcur alice\nmktkt 5 base\nfund 1 bob\n -> \
     line 9: the command was refused: no currency and no thread has the name 'bob'\n",
@@ -81,12 +77,7 @@ const NO_NAME_IS_NEAR: &[&str] = &[
     "fundx 1 base b spin\nkill a\n -> line 8: the command was refused: no thread has the name 'a'\n",
 ];
 
-// A currency is no thread, and a thread no currency, so neither is suggested for the other. Base can't be funded.
-#[test]
-fn no_name_is_near(rt: HostRuntime) {
-    check_commands(&rt, rt.alloc(), NO_NAME_IS_NEAR)
-}
-
+/// Thread `alice` ends at its first tick. The name of a removed thread, or one given by a later line, is no misspelling.
 const NAMES_OF_ANOTHER_TIME: &[&str] = &[
     "fundx 1 base alice stop\nmkcur alicf\nat 5\nunfund 1\nrmthr alice\nrmthr alice\n -> \
     line 12: the command was refused: no thread has the name 'alice'\n",
@@ -95,12 +86,6 @@ const NAMES_OF_ANOTHER_TIME: &[&str] = &[
     "mkthr a late\nscript late\nendscript\n -> \
     line 7: the command was refused: no script of an earlier line has the name 'late'\n",
 ];
-
-// Thread `alice` ends at its first tick. The name of a removed thread, or one given by a later line, is no misspelling.
-#[test]
-fn names_of_another_time(rt: HostRuntime) {
-    check_commands(&rt, rt.alloc(), NAMES_OF_ANOTHER_TIME)
-}
 
 const WORDS_THAT_ARE_THE_CAUSE: &[&str] = &[
     "mkcur alice\nmkthr alice spin\n -> \
@@ -115,11 +100,7 @@ const WORDS_THAT_ARE_THE_CAUSE: &[&str] = &[
     "mktkt 1 base\nunfund 1\n -> line 8: the command was refused: the ticket funds nothing\n",
 ];
 
-#[test]
-fn words_that_are_the_cause(rt: HostRuntime) {
-    check_commands(&rt, rt.alloc(), WORDS_THAT_ARE_THE_CAUSE)
-}
-
+/// Base's ticket of 1 has 256 units of value, of which a's part is 256 / 4294967296.
 const THREADS_THAT_WEIGH_NOTHING: &[&str] = &[
     "mkthr a spin\n -> thread 'a' is ready at the end and weighs nothing: it wins no draw before something funds it\n",
     "mkcur x\nfundx 5 x a spin\n -> \
@@ -132,12 +113,6 @@ const THREADS_THAT_WEIGH_NOTHING: &[&str] = &[
     thread 'a' is ready at the end and weighs nothing: it is funded, but its value rounds to 0\n",
 ];
 
-// Base's ticket of 1 has 256 units of value, of which a's part is 256 / 4294967296.
-#[test]
-fn threads_that_weigh_nothing(rt: HostRuntime) {
-    check_commands(&rt, rt.alloc(), THREADS_THAT_WEIGH_NOTHING)
-}
-
 /// Ticket 1 of `base` is worth 1, and each thread has half of it.
 const ROUNDED: Row = (
     "lottery 1\nscript s\ncompute 5\nendscript\nmkcur x\nmktkt 1 base\nfund 1 x\nfundx 1000 x a s\n\
@@ -147,23 +122,13 @@ thread 'b' is ready at the end and weighs nothing: it is funded, but its value r
 ",
 );
 
-#[test]
-fn rounded_values(rt: HostRuntime) {
-    check_all(&rt, rt.alloc(), &[ROUNDED])
-}
-
+/// A command at the end of the run is made, and none after it.
 const TIMES_AFTER_THE_END: &[&str] = &[
     "fundx 1 base a spin\nat 9\nmkcur b\nat 10\nmkcur c\n -> \
     line 11: this command was never made: tick 10 is after the end of the run at 9\n",
     "fundx 1 base a spin\nat 5000\nmkcur c\nat 6000\nmkcur d\n -> \
     line 9: this command and those after it, 2 in all, were never made: tick 5000 is after the end of the run at 9\n",
 ];
-
-// A command at the end of the run is made, and none after it.
-#[test]
-fn times_after_the_end(rt: HostRuntime) {
-    check_commands(&rt, rt.alloc(), TIMES_AFTER_THE_END)
-}
 
 const LIMITS: &[Row] = &[
     (
@@ -195,11 +160,6 @@ line 8: the command was refused: there are as many tickets as TICKETS allows in 
     ),
 ];
 
-#[test]
-fn limits(rt: HostRuntime) {
-    check_all(&rt, rt.alloc(), LIMITS)
-}
-
 const TICKETS_BY_NAME: &[&str] = &[
     "mktkt 5 base as gift\nrmtkt gift\nrmtkt gift\n -> \
     line 9: the command was refused: no ticket has the name 'gift' now\n",
@@ -208,11 +168,6 @@ const TICKETS_BY_NAME: &[&str] = &[
     line 8: the command was refused: no ticket has the name 'gift' now\n",
     "mktkt 5 base as gift\nunfund gift\n -> line 8: the command was refused: the ticket funds nothing\n",
 ];
-
-#[test]
-fn tickets_by_name(rt: HostRuntime) {
-    check_commands(&rt, rt.alloc(), TICKETS_BY_NAME)
-}
 
 /// The second command is refused, so the third is never made.
 const STRICT: &str = "lottery 3\nfor 9\nstrict\nmktkt 5 base\nfund 1 alice\nmkcur alice\n";
@@ -259,11 +214,6 @@ line 7: this command and those after it, 2 in all, were never made: tick 10 is a
     ),
 ];
 
-#[test]
-fn strict_inputs(rt: HostRuntime) {
-    check_all(&rt, rt.alloc(), STRICT_INPUTS)
-}
-
 /// No thread serves at port `print`, the second. Thread `own` ends with mutex `gate`, the second, and with the client
 /// `ask`, whose call at port `mail` it took.
 const WAITING: &str =
@@ -299,6 +249,8 @@ const WAITING_BESIDE_A_SPINNER: &str =
     "lottery 3\nfor 300\nquantum 10\nmutex m\nscript o\nlock m endscript\nscript g\nlock m compute 900 endscript\n\
     script s\ncompute 900 endscript\nfundx 9 base own o\nat 3\nfundx 1 base guest g\nfundx 1 base spin s\n";
 
+/// The warnings list eight of the twelve refused traps of `MANY`. For `AGAIN` they can't tell which script thread `a`
+/// ran.
 const WAITS_AND_REFUSED_TRAPS: &[Row] = &[
     (
         WAITING_BESIDE_A_SPINNER,
@@ -349,9 +301,26 @@ and 4 more traps that were refused
     ),
 ];
 
-// The warnings list eight of the twelve refused traps of `MANY`. For `AGAIN` they can't tell which script thread `a`
-// ran.
+/// Rows of commands.
+const COMMANDS: &[&[&str]] = &[
+    UNKNOWN_NAMES,
+    NO_NAME_IS_NEAR,
+    NAMES_OF_ANOTHER_TIME,
+    WORDS_THAT_ARE_THE_CAUSE,
+    THREADS_THAT_WEIGH_NOTHING,
+    TIMES_AFTER_THE_END,
+    TICKETS_BY_NAME,
+];
+
+/// Rows of whole inputs.
+const INPUTS: &[&[Row]] = &[&[ROUNDED], LIMITS, STRICT_INPUTS, WAITS_AND_REFUSED_TRAPS];
+
 #[test]
-fn waits_and_refused_traps(rt: HostRuntime) {
-    check_all(&rt, rt.alloc(), WAITS_AND_REFUSED_TRAPS)
+fn warnings(rt: HostRuntime) {
+    for rows in COMMANDS {
+        check_commands(&rt, rt.alloc(), rows);
+    }
+    for rows in INPUTS {
+        check_all(&rt, rt.alloc(), rows);
+    }
 }

@@ -26,14 +26,6 @@ fn sides(row: &str) -> (&str, &str) {
     row.split_once(" -> ").unwrap_or((row, ""))
 }
 
-/// Checks each of these inputs.
-fn check_all<H: Abort>(rt: &H, alloc: Global, rows: &[&str]) {
-    for row in rows {
-        let (input, expected) = sides(row);
-        check(rt, alloc, input.as_bytes(), expected);
-    }
-}
-
 /// Checks, for each row, an input of its lines with these texts before and after them.
 fn check_within<H: Abort>(rt: &H, alloc: Global, (front, back): (&str, &str), rows: &[&str]) {
     for row in rows {
@@ -52,11 +44,6 @@ const FIRST_LINES: &[&str] = &[
     line 3: 'processors' comes too late: the header has 'lottery', 'processors', 'quantum', 'turns', 'seed' and \
     'limits', each at most once, in this order and before all else\n",
 ];
-
-#[test]
-fn first_lines(rt: HostRuntime) {
-    check_all(&rt, rt.alloc(), FIRST_LINES)
-}
 
 const MISSPELT_WORDS: &[&str] = &[
     "lottery 1\n# a ticket\nmktk 5 base\n -> line 3: 'mktk' is no body line; did you mean 'mktkt'?\n",
@@ -84,11 +71,6 @@ const MISSPELT_WORDS: &[&str] = &[
     line 4: 'disc' is no port of an earlier line; did you mean 'disk'?\n",
 ];
 
-#[test]
-fn misspelt_words(rt: HostRuntime) {
-    check_all(&rt, rt.alloc(), MISSPELT_WORDS)
-}
-
 const PLACES_OF_LINES: &[&str] = &[
     "lottery 1\ncompute 4\n -> \
     line 2: 'compute' is a word of a script, and no script is open: 'script NAME' opens one\n",
@@ -101,11 +83,6 @@ const PLACES_OF_LINES: &[&str] = &[
     line 11: a ninth loop is open here, at most 8\n",
     "lottery 1\nruns 1 5\n -> line 2: 'runs' is for 'lottery 2': in 'lottery 1' write 'schedule ACTOR ..'\n",
 ];
-
-#[test]
-fn places_of_lines(rt: HostRuntime) {
-    check_all(&rt, rt.alloc(), PLACES_OF_LINES)
-}
 
 const BYTES: &[&str] = &[
     "lottery 1\nmktkt\t5 base\n -> line 2: a tab: put spaces between words\n",
@@ -132,8 +109,7 @@ const WIDE: &[&[u8]] = &[
 ];
 
 #[test]
-fn bytes(rt: HostRuntime) {
-    check_all(&rt, rt.alloc(), BYTES);
+fn wide_bytes(rt: HostRuntime) {
     let expected =
         "line 1: the file is in UTF-16: save it as ASCII, or as UTF-8 without a byte order mark\n";
     for input in WIDE {
@@ -161,11 +137,6 @@ const COUNTS_OF_WORDS: &[&str] = &[
     "lottery 1\nscript\n -> line 2: this line is written 'script NAME', and here is 1 word\n",
 ];
 
-#[test]
-fn counts_of_words(rt: HostRuntime) {
-    check_all(&rt, rt.alloc(), COUNTS_OF_WORDS)
-}
-
 const NUMBERS: &[&str] = &[
     "lottery 1\nmktkt 05 base\n -> \
     line 2: '05' is no number from 1 to 4294967295: a number has digits alone, no sign, no fraction and no 0 before \
@@ -188,11 +159,7 @@ const NUMBERS: &[&str] = &[
     "lottery 1\nprocessors 2\nschedule 0 1 2 3\n -> line 3: '3': the last processor is 2, and 0 is the console\n",
 ];
 
-#[test]
-fn numbers(rt: HostRuntime) {
-    check_all(&rt, rt.alloc(), NUMBERS)
-}
-
+/// A word that isn't a name was meant as a number.
 const NAMES_FOR_NUMBERS: &[&str] = &[
     "fund alice 3 -> line 2: 'alice' is no number; this line is written 'fund TICKET TARGET'\n",
     "mktkt base 5 -> line 2: 'base' is no number; this line is written 'mktkt AMOUNT CURRENCY'\n",
@@ -203,23 +170,12 @@ const NAMES_FOR_NUMBERS: &[&str] = &[
     others\n",
 ];
 
-// A word that isn't a name was meant as a number.
-#[test]
-fn names_for_numbers(rt: HostRuntime) {
-    check_within(&rt, rt.alloc(), ("lottery 1\n", "\n"), NAMES_FOR_NUMBERS)
-}
-
 const NAMES: &[&str] = &[
     "lottery 1\nmkcur a_name_of_17_bytes\n -> line 2: 'a_name_of_17_bytes' has 18 bytes, and a name at most 16\n",
     "lottery 1\nport Disk\n -> \
     line 2: 'Disk' is no name: a letter a to z, and then letters a to z, digits, '_' or '-'\n",
     "lottery 1\nmutex m\nport m\nmutex m\n -> line 4: 'm' is the name of an earlier mutex\n",
 ];
-
-#[test]
-fn names(rt: HostRuntime) {
-    check_all(&rt, rt.alloc(), NAMES)
-}
 
 #[test]
 fn too_many(rt: HostRuntime) {
@@ -272,11 +228,7 @@ const TURNS_IN_TIME: &[&str] = &[
     line 4: 'serve' is for 'lottery 3', whose turns come in the order of time\n",
 ];
 
-#[test]
-fn turns_in_time(rt: HostRuntime) {
-    check_all(&rt, rt.alloc(), TURNS_IN_TIME)
-}
-
+/// Header lines of a timed input, which come in any order, but not too late.
 const LATE_HEADER_LINES: &[&str] = &[
     "lottery 3\nfor 5\nquantum 5\nfor 6\n -> \
     line 4: 'for' begins an earlier line: each header line comes at most once\n",
@@ -289,12 +241,6 @@ const LATE_HEADER_LINES: &[&str] = &[
     line 3: the header doesn't say how long the input runs: 'for TICKS' comes before the first body line\n",
 ];
 
-/// Header lines of a timed input, which come in any order, but not too late.
-#[test]
-fn late_header_lines(rt: HostRuntime) {
-    check_all(&rt, rt.alloc(), LATE_HEADER_LINES)
-}
-
 const NUMBERS_GIVEN_AGAIN: &[&str] = &[
     "lottery 2\nreuse\n -> line 2: 'reuse' is for 'lottery 3', whose turns come in the order of time\n",
     "lottery 3\nfor 5\nreuse 1\n -> line 3: this line is written 'reuse', and here are 2 words\n",
@@ -305,11 +251,6 @@ const NUMBERS_GIVEN_AGAIN: &[&str] = &[
     line 3: the header doesn't say how long the input runs: 'for TICKS' comes before the first body line\n",
 ];
 
-#[test]
-fn numbers_given_again(rt: HostRuntime) {
-    check_all(&rt, rt.alloc(), NUMBERS_GIVEN_AGAIN)
-}
-
 const MECHANISMS: &[&str] = &[
     "lottery 3\nwithout both\n -> \
     line 2: 'both' is no mechanism that can be left out: write 'compensation' or 'lending', and a line for each\n",
@@ -317,11 +258,6 @@ const MECHANISMS: &[&str] = &[
     "lottery 3\nfor 5\nwithout lending compensation\n -> \
     line 3: this line is written 'without MECHANISM', and here are 3 words\n",
 ];
-
-#[test]
-fn mechanisms(rt: HostRuntime) {
-    check_all(&rt, rt.alloc(), MECHANISMS)
-}
 
 const STRICT_INPUTS: &[&str] = &[
     "lottery 2\nstrict\n -> line 2: 'strict' is for 'lottery 3', whose turns come in the order of time\n",
@@ -331,11 +267,6 @@ const STRICT_INPUTS: &[&str] = &[
     "lottery 3\nfor 5\nport p\nstrict\n -> \
     line 4: 'strict' stands after a body line: header lines come before all else\n",
 ];
-
-#[test]
-fn strict_inputs(rt: HostRuntime) {
-    check_all(&rt, rt.alloc(), STRICT_INPUTS)
-}
 
 /// The texts before and after a line, in an input that names a ticket first.
 const NAMED: (&str, &str) = ("lottery 3\nfor 5\nmktkt 5 base as gift\n", "\n");
@@ -350,11 +281,6 @@ const TICKETS_BY_NAME: &[&str] = &[
     "settkt gift five -> line 4: 'five' is no number; this line is written 'settkt TICKET AMOUNT'\n",
     "unfund gift now -> line 4: this line is written 'unfund TICKET', and here are 3 words\n",
 ];
-
-#[test]
-fn tickets_by_name(rt: HostRuntime) {
-    check_within(&rt, rt.alloc(), NAMED, TICKETS_BY_NAME)
-}
 
 const NAMES_OF_TICKETS: &[&str] = &[
     "mktkt 5 base as gift -> line 4: 'gift' is the name of an earlier ticket\n",
@@ -371,21 +297,11 @@ const NAMES_OF_TICKETS: &[&str] = &[
     line 4: this line is written 'fundx AMOUNT CURRENCY NAME SCRIPT [as NAME]', and here are 6 words\n",
 ];
 
-#[test]
-fn names_of_tickets(rt: HostRuntime) {
-    check_within(&rt, rt.alloc(), NAMED, NAMES_OF_TICKETS)
-}
-
 const NAMES_OF_TICKETS_IN_OTHER_FORMATS: &[&str] = &[
     "lottery 2\nfundx 5 base a s as gift\n -> line 2: 'as' is for 'lottery 3', whose turns come in the order of time\n",
     "lottery 1\nmktkt 5 base as\n -> line 2: this line is written 'mktkt AMOUNT CURRENCY', and here are 4 words\n",
     "lottery 1\nrmtkt gift\n -> line 2: 'gift' is no number; this line is written 'rmtkt TICKET'\n",
 ];
-
-#[test]
-fn names_of_tickets_in_other_formats(rt: HostRuntime) {
-    check_all(&rt, rt.alloc(), NAMES_OF_TICKETS_IN_OTHER_FORMATS)
-}
 
 #[test]
 fn too_many_names_of_tickets(rt: HostRuntime) {
@@ -419,22 +335,12 @@ const COMMANDS_OF_ONE_FORMAT: &[&str] = &[
     "lottery 3\nfor 5\nscript s\nsleep 0\n -> line 4: '0' is no number from 1 to 4294967295\n",
 ];
 
-#[test]
-fn commands_of_one_format(rt: HostRuntime) {
-    check_all(&rt, rt.alloc(), COMMANDS_OF_ONE_FORMAT)
-}
-
 const SLEEPS: &[&str] = &[
     "lottery 1\nscript s\nsleep 5\n -> line 3: 'sleep' is for 'lottery 3', whose turns come in the order of time\n",
     "lottery 2\nscript s\nsleep\n -> line 3: 'sleep' is for 'lottery 3', whose turns come in the order of time\n",
     "lottery 3\nfor 5\nscript s\nyield sleep 4294967296\n -> line 4: '4294967296' is no number from 1 to 4294967295\n",
     "lottery 3\nfor 5\nscript s\nsleep\n -> line 4: a word is missing at the end: 'sleep TICKS'\n",
 ];
-
-#[test]
-fn sleeps(rt: HostRuntime) {
-    check_all(&rt, rt.alloc(), SLEEPS)
-}
 
 /// The texts before and after the lines of a script that end an input.
 const IN_SCRIPT: (&str, &str) = ("lottery 3\nfor 5\nmutex m\nscript s\n", "");
@@ -460,9 +366,72 @@ const SEVERAL_WORDS: &[&str] = &[
     "unlock endscript -> line 5: a word is missing before 'endscript': 'unlock MUTEX'\n",
 ];
 
+/// No texts round an input.
+const WHOLE: (&str, &str) = ("", "");
+
+/// The texts before and after the lines of rows, and the rows.
+type Refused = ((&'static str, &'static str), &'static [&'static str]);
+
+fn check_refused<H: Abort>(rt: &H, alloc: Global, refused: &[Refused]) {
+    for (around, rows) in refused {
+        check_within(rt, alloc, *around, rows);
+    }
+}
+
+const LINES_REFUSED: &[Refused] = &[
+    (WHOLE, FIRST_LINES),
+    (WHOLE, MISSPELT_WORDS),
+    (WHOLE, PLACES_OF_LINES),
+    (WHOLE, COUNTS_OF_WORDS),
+];
+
 #[test]
-fn several_words(rt: HostRuntime) {
-    check_within(&rt, rt.alloc(), IN_SCRIPT, SEVERAL_WORDS)
+fn refused_lines(rt: HostRuntime) {
+    check_refused(&rt, rt.alloc(), LINES_REFUSED)
+}
+
+const ARGUMENTS_REFUSED: &[Refused] = &[
+    (WHOLE, NUMBERS),
+    (WHOLE, NAMES),
+    (("lottery 1\n", "\n"), NAMES_FOR_NUMBERS),
+    (WHOLE, BYTES),
+];
+
+#[test]
+fn refused_arguments(rt: HostRuntime) {
+    check_refused(&rt, rt.alloc(), ARGUMENTS_REFUSED)
+}
+
+const HEADERS_REFUSED: &[Refused] = &[
+    (WHOLE, TURNS_IN_TIME),
+    (WHOLE, LATE_HEADER_LINES),
+    (WHOLE, NUMBERS_GIVEN_AGAIN),
+    (WHOLE, MECHANISMS),
+    (WHOLE, STRICT_INPUTS),
+];
+
+#[test]
+fn refused_headers(rt: HostRuntime) {
+    check_refused(&rt, rt.alloc(), HEADERS_REFUSED)
+}
+
+const COMMANDS_REFUSED: &[Refused] = &[
+    (WHOLE, COMMANDS_OF_ONE_FORMAT),
+    (NAMED, TICKETS_BY_NAME),
+    (NAMED, NAMES_OF_TICKETS),
+    (WHOLE, NAMES_OF_TICKETS_IN_OTHER_FORMATS),
+];
+
+#[test]
+fn refused_commands(rt: HostRuntime) {
+    check_refused(&rt, rt.alloc(), COMMANDS_REFUSED)
+}
+
+const STEPS_REFUSED: &[Refused] = &[(WHOLE, SLEEPS), (IN_SCRIPT, SEVERAL_WORDS)];
+
+#[test]
+fn refused_steps(rt: HostRuntime) {
+    check_refused(&rt, rt.alloc(), STEPS_REFUSED)
 }
 
 const COMMANDS: &[u8] =

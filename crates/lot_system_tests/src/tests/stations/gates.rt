@@ -60,22 +60,22 @@ fn held_in_free_run<R: Threads + Wait + Abort + Sync>(
     seen_of(&gate, system.history())
 }
 
-// A worker waits at its gate until the other has made its turns, whichever of the two is held. So they run at once, no
+/// Programs, the processor whose worker is held, how often the others pass before, and the turns of a run.
+const HELD: &[(&str, u32, u64, u32)] = &[
+    (TWO_PROCESSORS, 1, 2, 5),
+    (TWO_PROCESSORS, 2, 2, 5),
+    (THREE_PROCESSORS, 1, 4, 7),
+    (THREE_PROCESSORS, 2, 4, 7),
+    (THREE_PROCESSORS, 3, 4, 7),
+];
+
+// A worker waits at its gate until the others have made their turns, whichever of them is held. So they run at once, no
 // lock is held meanwhile, and each passes with its own number, since the held one doesn't come first.
 #[test]
 fn workers_run_at_once(rt: HostRuntime) {
-    for held in 1..3u32 {
-        let seen = held_in_free_run(&rt, rt.alloc(), TWO_PROCESSORS, held, 2);
-        check_same_at(&rt, &held, &seen, &(false, false, 5));
-    }
-}
-
-// Three workers run at once too.
-#[test]
-fn three_workers_run_at_once(rt: HostRuntime) {
-    for held in 1..4u32 {
-        let seen = held_in_free_run(&rt, rt.alloc(), THREE_PROCESSORS, held, 4);
-        check_same_at(&rt, &held, &seen, &(false, false, 7));
+    for (text, held, wanted, turns) in HELD {
+        let seen = held_in_free_run(&rt, rt.alloc(), text, *held, *wanted);
+        check_same_at(&rt, &(text, held), &seen, &(false, false, *turns as usize));
     }
 }
 
@@ -141,17 +141,14 @@ fn held_in_baton_run<R: Threads + Wait + Abort + Sync>(
 // Workers over a baton station run at once too.
 #[test]
 fn baton_workers_run_at_once(rt: HostRuntime) {
-    for held in 1..3u32 {
-        let seen = held_in_baton_run(&rt, rt.alloc(), TWO_PROCESSORS, held, 2, 5);
-        check_same_at(&rt, &held, &seen, &(false, (false, false, 5)));
-    }
-}
-
-#[test]
-fn three_baton_workers_run_at_once(rt: HostRuntime) {
-    for held in 1..4u32 {
-        let seen = held_in_baton_run(&rt, rt.alloc(), THREE_PROCESSORS, held, 4, 7);
-        check_same_at(&rt, &held, &seen, &(false, (false, false, 7)));
+    for (text, held, wanted, turns) in HELD {
+        let found = held_in_baton_run(&rt, rt.alloc(), text, *held, *wanted, *turns);
+        check_same_at(
+            &rt,
+            &(text, held),
+            &found,
+            &(false, (false, false, *turns as usize)),
+        );
     }
 }
 

@@ -14,6 +14,3 @@ returns-in-Runs c = rw c.in-Runs.is (c.runs.ensures c.args.number)
 
 pub returns-in-At : goal.returns-in-At
 returns-in-At c = rw c.in-At.is (c.at.ensures c.args.number)
-
-pub returns-in-Command : goal.returns-in-Command
-returns-in-Command c = rw c.in-Command.is c.command_line.ensures

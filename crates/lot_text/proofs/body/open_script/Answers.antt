@@ -1,4 +1,4 @@
-use Rattle.lot_text.proofs.Lemmas.{Gives-refusal, Reading, alone-refused, ap, arith, body_after_header, length, reading_of, refl, script-full, script-named, script-refused, script_names, sym, with_open}
+use Rattle.lot_text.proofs.Lemmas.{Gives-refusal, Reading, alone-refused, ap, arith, body_after_header, length, reading_of, refl, script-full, script-named, script-refused, script_names, sym}
 use Rattle.lot_simulation.specs.declared.input.BodyWord.TheVariants as body
 use Rattle.lot_text.proofs.body.open_script.Goals as goal
 
@@ -21,10 +21,6 @@ returns-then-len c =
     let count = ap (λ (read : Reading). length read.scripts) c.reading.view_is in
     rw c.in_ok-token.ensures
     (script-full c.args.number c.args.reading.now c.args.reading.now c.in_ok-token.token.now (script_names c.args.reading.now) c.in_ok-name.name refl refl c.in_ok-name.ensures (omega (arith, count, c.if-len.true, c.len.ensures)))
-
-pub invariant_of-reading : goal.invariant_of-reading
-invariant_of-reading c =
-    with_open (reading_of c.reading.inside) _ c.reading.invariant (omega (arith, c.if-len.false, c.len.ensures))
 
 pub returns : goal.returns
 returns c =

@@ -6,9 +6,6 @@ returns-in_err-name c n =
     Gives-refusal _ c.from_residual.result c.in_err-name.field-0.0 _ c.from_residual.ensures
     (rw (port-line n c.args.reading.now c.args.tokens, ← c.reading.view_is, ← c.as_slice.ensures.value, ← c.in_err-name.ensures.read) refl)
 
-pub invariant_of-reading : goal.invariant_of-reading
-invariant_of-reading c = rw c.in_err-push.ensures.items c.reading.invariant
-
 pub returns-in_err-push : goal.returns-in_err-push
 returns-in_err-push c n = Gives-memory _ c.from_residual-in_err-push.result _ c.from_residual-in_err-push.ensures
 

@@ -1,4 +1,4 @@
-use Rattle.lot_text.proofs.Lemmas.{All-nil, All-push, All-same, IfOk-from_err, Match-memory, Match-refusal, Ok, actor_below, ap, append-nil, arith, each-later, each-more, each-refused, length, more-read, ℕ, [], ◌∙◌, ◌∷◌, ◌≤◌}
+use Rattle.lot_text.proofs.Lemmas.{All-nil, All-push, All-same, Match-memory, Match-refusal, Ok, actor_below, ap, append-nil, each-later, each-more, each-refused, more-read, ℕ, [], ◌∙◌, ◌∷◌, ◌≤◌}
 use Rattle.lot_text.proofs.body.read_actors.Goals as goal
 
 pub returns-clause-read : goal.returns-clause-read
@@ -8,9 +8,6 @@ pub loop-token-init : goal.loop-token-init
 loop-token-init c =
     rw c.in_ok-actors.ensures.items (record { below = All-nil (λ (actor : ℕ). actor ≤ c.args.processors); read = λ others is. is; refused = λ refusal is. is })
 
-pub returns-in_err-actor_below-clause-actors : goal.returns-in_err-actor_below-clause-actors
-returns-in_err-actor_below-clause-actors c = IfOk-from_err c.from_residual-in_err-actor_below.result _ c.from_residual-in_err-actor_below.ensures.0
-
 pub returns-in_err-actor_below-clause-read : goal.returns-in_err-actor_below-clause-read
 returns-in_err-actor_below-clause-read c =
     let refused =
@@ -18,9 +15,6 @@ returns-in_err-actor_below-clause-read c =
     c.in-Some.ensures.next c.in_err-actor_below.ensures.read in
     Match-refusal c.from_residual-in_err-actor_below.result _ c.in_err-actor_below.field-0.0 _ c.from_residual-in_err-actor_below.ensures
     (c.loop-token.invariant.refused c.in_err-actor_below.field-0.0 refused)
-
-pub loop-token-smaller : goal.loop-token-smaller
-loop-token-smaller c = omega (arith, ap length c.in-Some.ensures.next)
 
 pub loop-token-preserved : goal.loop-token-preserved
 loop-token-preserved c = record {
@@ -36,17 +30,8 @@ loop-token-preserved c = record {
       (each-later (actor_below c.args.processors) c.loop-token.tokens c.next_token.new.self c.in-Some.token.now c.in_ok-actor_below.field-0 refusal c.in-Some.ensures.next c.in_ok-actor_below.ensures.read is);
 }
 
-pub returns-in_err-push-clause-actors : goal.returns-in_err-push-clause-actors
-returns-in_err-push-clause-actors c = IfOk-from_err c.from_residual-in_err-push.result _ c.from_residual-in_err-push.ensures.0
-
 pub returns-in_err-push-clause-read : goal.returns-in_err-push-clause-read
 returns-in_err-push-clause-read c = Match-memory c.from_residual-in_err-push.result _ _ c.from_residual-in_err-push.ensures
-
-pub returns-clause-actors : goal.returns-clause-actors
-returns-clause-actors c = c.loop-token.invariant.below
-
-pub returns-in_err-actors-clause-actors : goal.returns-in_err-actors-clause-actors
-returns-in_err-actors-clause-actors c = IfOk-from_err c.from_residual.result _ c.from_residual.ensures.0
 
 pub returns-in_err-actors-clause-read : goal.returns-in_err-actors-clause-read
 returns-in_err-actors-clause-read c = Match-memory c.from_residual.result _ _ c.from_residual.ensures

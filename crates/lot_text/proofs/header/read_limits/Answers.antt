@@ -1,4 +1,4 @@
-use Rattle.lot_text.proofs.Lemmas.{Gives-refusal, alone-refused, header_line, limits-read, reading_of, refl, with_limits, ◌∷◌}
+use Rattle.lot_text.proofs.Lemmas.{Gives-refusal, alone-refused, header_line, limits-read, reading_of, refl, ◌∷◌}
 use Rattle.lot_simulation.specs.declared.input.HeaderWord.TheVariants as header
 use Rattle.lot_text.proofs.header.read_limits.Goals as goal
 
@@ -58,11 +58,6 @@ returns-in_err-threads-2 c =
       ← c.in_ok-currencies-2.ensures.read,
       ← c.in_err-threads-2.ensures.read,
     ) refl)
-
-pub invariant_of-reading : goal.invariant_of-reading
-invariant_of-reading c =
-    with_limits (reading_of c.reading.inside) c.in_ok-tickets-2.tickets c.in_ok-currencies-2.currencies c.in_ok-threads-2.threads c.reading.invariant
-    c.in_ok-tickets-2.ensures.between c.in_ok-currencies-2.ensures.between c.in_ok-threads-2.ensures.between
 
 pub returns : goal.returns
 returns c =

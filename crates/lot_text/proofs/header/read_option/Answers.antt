@@ -1,5 +1,4 @@
-use Rattle.lot_text.proofs.Lemmas.{Gives-refusal, none-refused, reading_of, refl}
-use Rattle.lot_text.proofs.ReadingLemmas.{with_options}
+use Rattle.lot_text.proofs.Lemmas.{Gives-refusal, none-refused, refl}
 use Rattle.lot_simulation.specs.Grammar.{option_line}
 use Rattle.lot_text.proofs.header.read_option.Goals as goal
 
@@ -7,6 +6,3 @@ pub returns-in_err-none : goal.returns-in_err-none
 returns-in_err-none c =
     let other = none-refused (λ tokens. option_line c.args.reading.now tokens c.args.chosen) c.args.tokens c.in_err-none.field-0.0 (λ first others. refl) c.in_err-none.ensures in
     Gives-refusal _ c.from_residual.result c.in_err-none.field-0.0 _ c.from_residual.ensures other
-
-pub invariant_of-reading : goal.invariant_of-reading
-invariant_of-reading c = with_options (reading_of c.reading.inside) c.in-Some.options c.reading.invariant

@@ -5,6 +5,3 @@ pub returns-in_err-reading-inside : goal.returns-in_err-reading-inside
 returns-in_err-reading-inside c =
     Gives-refusal _ c.from_residual.result c.in_err-reading-inside.field-0.0 _ c.from_residual.ensures
     (rw (← c.in_err-reading-inside.ensures.read) refl)
-
-pub returns : goal.returns
-returns c = rw (← c.in_ok-reading-inside.ensures.read, ← c.reading.view_is) refl

@@ -1,4 +1,4 @@
-use Rattle.lot_text.proofs.Lemmas.{All-nil, All-push, All-same, IfOk-from_err, IsSeed, Match-memory, Match-refusal, Ok, ap, append-nil, arith, each-later, each-more, each-refused, length, length-append, more-read, number_between, [], ◌∙◌, ◌∷◌}
+use Rattle.lot_text.proofs.Lemmas.{All-nil, All-push, All-same, IsSeed, Match-memory, Match-refusal, Ok, ap, append-nil, arith, each-later, each-more, each-refused, length, length-append, more-read, number_between, [], ◌∙◌, ◌∷◌}
 use Rattle.lot_text.proofs.header.read_seeds.Goals as goal
 
 pub returns-clause-read : goal.returns-clause-read
@@ -8,9 +8,6 @@ pub loop-token-init : goal.loop-token-init
 loop-token-init c =
     rw c.new-seeds.ensures.items (record { seeds = All-nil IsSeed; count = omega arith; read = λ others is. is; refused = λ refusal is. is })
 
-pub returns-in_err-number_in-clause-seeds : goal.returns-in_err-number_in-clause-seeds
-returns-in_err-number_in-clause-seeds c = IfOk-from_err c.from_residual.result _ c.from_residual.ensures.0
-
 pub returns-in_err-number_in-clause-read : goal.returns-in_err-number_in-clause-read
 returns-in_err-number_in-clause-read c =
     let refused =
@@ -18,9 +15,6 @@ returns-in_err-number_in-clause-read c =
     c.in_err-number_in.ensures.read in
     Match-refusal c.from_residual.result _ c.in_err-number_in.field-0.0 _ c.from_residual.ensures
     (c.loop-token.invariant.refused c.in_err-number_in.field-0.0 refused)
-
-pub loop-token-smaller : goal.loop-token-smaller
-loop-token-smaller c = omega (arith, ap length c.in-Some.ensures.next)
 
 pub loop-token-preserved : goal.loop-token-preserved
 loop-token-preserved c = record {
@@ -37,12 +31,5 @@ loop-token-preserved c = record {
       (each-later (number_between 1 2147483646) c.loop-token.tokens c.next_token.new.self c.in-Some.token.now c.in_ok-number_in.field-0 refusal c.in-Some.ensures.next c.in_ok-number_in.ensures.read is);
 }
 
-pub returns-in_err-push-clause-seeds : goal.returns-in_err-push-clause-seeds
-returns-in_err-push-clause-seeds c = IfOk-from_err c.from_residual-in_err-push.result _ c.from_residual-in_err-push.ensures.0
-
 pub returns-in_err-push-clause-read : goal.returns-in_err-push-clause-read
 returns-in_err-push-clause-read c = Match-memory c.from_residual-in_err-push.result _ _ c.from_residual-in_err-push.ensures
-
-pub returns-clause-seeds : goal.returns-clause-seeds
-returns-clause-seeds c =
-    record { count = omega (arith, c.loop-token.invariant.count, ap length c.in_default.ensures.next.0); each = c.loop-token.invariant.seeds }

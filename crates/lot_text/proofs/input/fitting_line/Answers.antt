@@ -1,18 +1,6 @@
 -- Each way out is a line of its own kind: ignored, not printable, without a token, a comment, the first, or a later one.
-use Rattle.lot_text.proofs.Lemmas.{Fails-then, Gives-fault, Ok, Reading, Some, refl}
+use Rattle.lot_text.proofs.Lemmas.{Fails-then, Gives-fault, Ok, Reading, Some}
 use Rattle.lot_text.proofs.input.fitting_line.Goals as goal
-
-pub returns-then-is_ignored : goal.returns-then-is_ignored
-returns-then-is_ignored c = rw (← c.if-is_ignored.ensures) refl
-
-pub returns-in_default : goal.returns-in_default
-returns-in_default c = rw (← c.if-is_ignored.ensures, c.in_default.ensures) refl
-
-pub returns-in_default-next_token : goal.returns-in_default-next_token
-returns-in_default-next_token c = rw (← c.in-Some.ensures.1, c.in_default-next_token.ensures.next.0) refl
-
-pub returns-then-begins_comment : goal.returns-then-begins_comment
-returns-then-begins_comment c = rw (← c.in-Some.ensures.1, c.in-Some-next_token.ensures.next, ← c.if-begins_comment.ensures) refl
 
 pub returns-in_err-first_line-in-None : goal.returns-in_err-first_line-in-None
 returns-in_err-first_line-in-None c =
@@ -26,11 +14,3 @@ returns-in_err-later_line-in-Some-reading c =
     Gives-fault _ result.result c.in_err-later_line-in-Some-reading.field-0.0 _ result.ensures.1 result.ensures.0
     (rw (← c.in-Some.ensures.1, c.in-Some-next_token.ensures.next, ← c.if-begins_comment.ensures, c.in-Some.ensures.0, ← c.in-Some.ensures.1, c.in-Some-next_token.ensures.next, c.in-Some-reading.is)
     (Fails-then c.in_err-later_line-in-Some-reading.field-0.0 _ (λ (after : Reading). Ok (Some after)) c.in_err-later_line-in-Some-reading.ensures))
-
-pub returns-in_ok-first_line-in-None : goal.returns-in_ok-first_line-in-None
-returns-in_ok-first_line-in-None c =
-    rw (← c.in-Some.ensures.1, c.in-Some-next_token.ensures.next, ← c.if-begins_comment.ensures, c.in-Some.ensures.0, ← c.in-Some.ensures.1, c.in-Some-next_token.ensures.next, c.in-None.is, c.in_ok-first_line-in-None.ensures) refl
-
-pub returns-in_ok-later_line-in-Some-reading : goal.returns-in_ok-later_line-in-Some-reading
-returns-in_ok-later_line-in-Some-reading c =
-    rw (← c.in-Some.ensures.1, c.in-Some-next_token.ensures.next, ← c.if-begins_comment.ensures, c.in-Some.ensures.0, ← c.in-Some.ensures.1, c.in-Some-next_token.ensures.next, c.in-Some-reading.is, c.in_ok-later_line-in-Some-reading.ensures) refl

@@ -1,15 +1,10 @@
-use Rattle.lot_text.proofs.Lemmas.{Err, Ok, OnOk, Result, Some, false, phrase-read, reading_of, refl, sym, true, ◌∙◌, ◌≡◌}
+use Rattle.lot_text.proofs.Lemmas.{Err, Ok, OnOk, Result, false, phrase-read, reading_of, refl, sym, true, ◌∙◌}
 use Rattle.lot_text.proofs.input.phrase_inside.Goals as goal
 
 -- what holds in any case holds on `Ok`
 always : {A E : Type 0} (r : Result A E) (P : Type 0) → P → OnOk r P
 always (Ok done) P holds = holds
 always (Err fault) P holds = tt
-
-pub returns-in_default-of_token-clause-read : goal.returns-in_default-of_token-clause-read
-returns-in_default-of_token-clause-read c =
-    let unclosed : c.reading.inside.unclosed ≡ Some c.in-Some.script = sym c.take.ensures.value ∙ c.in-Some.is in
-    rw (← c.reading.view_is, unclosed, ← c.in_default-of_token.ensures) refl
 
 pub returns-then-stands_alone-clause-read : goal.returns-then-stands_alone-clause-read
 returns-then-stands_alone-clause-read c =

@@ -1,4 +1,4 @@
-use Rattle.lot_text.proofs.Lemmas.{All-actors_of, IfOk-from_err, actors_of-more, arith, length-actors_of, refl, sym, take, take_all, vec_len, ◌+◌, ◌-◌, ◌≡◌}
+use Rattle.lot_text.proofs.Lemmas.{All-actors_of, actors_of-more, arith, length-actors_of, sym, take, take_all, vec_len, ◌+◌, ◌-◌, ◌≡◌}
 use Rattle.lot_text.proofs.runs.actors_of.Goals as goal
 
 pub returns-clause-count : goal.returns-clause-count
@@ -10,23 +10,6 @@ pub returns-clause-below : goal.returns-clause-below
 returns-clause-below c p each =
     let all : take c.loop-run.run-index c.args.runs.now ≡ c.args.runs.now = take_all c.loop-run.run-index c.args.runs.now (omega arith) in
     rw (c.loop-run.invariant, all) (All-actors_of p c.args.runs.now each)
-
-pub loop-run-init : goal.loop-run-init
-loop-run-init c = c.new-actors.ensures.items
-
-pub returns-in_err-resize-clause-actors : goal.returns-in_err-resize-clause-actors
-returns-in_err-resize-clause-actors c = IfOk-from_err c.from_residual.result _ c.from_residual.ensures.0
-
-pub returns-in_err-resize-clause-count : goal.returns-in_err-resize-clause-count
-returns-in_err-resize-clause-count c = IfOk-from_err c.from_residual.result _ c.from_residual.ensures.0
-
-pub returns-in_err-resize-clause-below : goal.returns-in_err-resize-clause-below
-returns-in_err-resize-clause-below c p each = IfOk-from_err c.from_residual.result _ c.from_residual.ensures.0
-
-pub returns-clause-actors : goal.returns-clause-actors
-returns-clause-actors c =
-    let all : take c.loop-run.run-index c.args.runs.now ≡ c.args.runs.now = take_all c.loop-run.run-index c.args.runs.now (omega arith) in
-    rw (c.loop-run.invariant, all) refl
 
 pub loop-run-preserved : goal.loop-run-preserved
 loop-run-preserved c =

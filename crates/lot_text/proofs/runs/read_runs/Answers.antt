@@ -1,4 +1,4 @@
-use Rattle.lot_text.proofs.Lemmas.{ActorRun, All-nil, All-push, All-same, IfOk-from_err, Match-memory, Match-refusal, Ok, ap, append-nil, arith, each_pair-none, length, more-read, pair-later, pair-more, pair-refused, run_of, [], ◌∙◌, ◌∷◌, ◌≤◌}
+use Rattle.lot_text.proofs.Lemmas.{ActorRun, All-nil, All-push, All-same, Match-memory, Match-refusal, Ok, ap, append-nil, each_pair-none, more-read, pair-later, pair-more, pair-refused, run_of, [], ◌∙◌, ◌∷◌, ◌≤◌}
 use Rattle.lot_text.proofs.runs.read_runs.Goals as goal
 
 pub returns-clause-read : goal.returns-clause-read
@@ -10,9 +10,6 @@ loop-actor-init c =
     rw c.new-runs.ensures.items
     (record { actors = All-nil (λ (run : ActorRun). run.actor ≤ c.args.processors); read = λ others is. is; refused = λ refusal is. is })
 
-pub returns-in_err-run_of-clause-actors : goal.returns-in_err-run_of-clause-actors
-returns-in_err-run_of-clause-actors c = IfOk-from_err c.from_residual.result _ c.from_residual.ensures.0
-
 pub returns-in_err-run_of-clause-read : goal.returns-in_err-run_of-clause-read
 returns-in_err-run_of-clause-read c =
     let refused =
@@ -20,9 +17,6 @@ returns-in_err-run_of-clause-read c =
     c.in-Some.ensures c.in_err-run_of.ensures.read in
     Match-refusal c.from_residual.result _ c.in_err-run_of.field-0.0 _ c.from_residual.ensures
     (c.loop-actor.invariant.refused c.in_err-run_of.field-0.0 refused)
-
-pub loop-actor-smaller : goal.loop-actor-smaller
-loop-actor-smaller c = omega (arith, ap length c.in-Some.ensures)
 
 pub loop-actor-preserved : goal.loop-actor-preserved
 loop-actor-preserved c = record {
@@ -38,11 +32,5 @@ loop-actor-preserved c = record {
       (pair-later (run_of c.args.processors) c.loop-actor.tokens c.next_pair.new.self c.in-Some.actor.now c.in-Some.count.now c.in_ok-run_of.field-0 refusal c.in-Some.ensures c.in_ok-run_of.ensures.read is);
 }
 
-pub returns-in_err-push-clause-actors : goal.returns-in_err-push-clause-actors
-returns-in_err-push-clause-actors c = IfOk-from_err c.from_residual-in_err-push.result _ c.from_residual-in_err-push.ensures.0
-
 pub returns-in_err-push-clause-read : goal.returns-in_err-push-clause-read
 returns-in_err-push-clause-read c = Match-memory c.from_residual-in_err-push.result _ _ c.from_residual-in_err-push.ensures
-
-pub returns-clause-actors : goal.returns-clause-actors
-returns-clause-actors c = c.loop-actor.invariant.actors

@@ -5,6 +5,3 @@ pub returns-in_err-number : goal.returns-in_err-number
 returns-in_err-number c =
     Gives-refusal _ c.from_residual.result c.in_err-number.field-0.0 _ c.from_residual.ensures
     (rw (← c.arguments.ensures, ← c.in_err-number.ensures.read) refl)
-
-pub returns : goal.returns
-returns c = rw (← c.arguments.ensures, ← c.in_ok-number.ensures.read) c.numbered.ensures

@@ -1,14 +1,6 @@
 use Rattle.lot_graph.proofs.Lemmas.{Finds, FoundNodes, IsAbove, IsBack, IsFoundList, IsNodeWithin, ap, finds-above, found_nodes, layout_of, limits-within, subst, sym, ◌∙◌}
 use Rattle.lot_graph.proofs.above.Above.find.Goals as goal
 
-pub find-requires-clause-ahead : goal.find-requires-clause-ahead
-find-requires-clause-ahead c = λ a b (edge, is). subst (λ l. IsNodeWithin l b) (sym c.layout.ensures.layout) (c.layout.ensures.fits.from edge b a is)
-
-pub find-requires-clause-list : goal.find-requires-clause-list
-find-requires-clause-list c =
-    let layout_is = ap (λ (v : FoundNodes). v.layout) c.self.view_is ∙ c.requires.layout ∙ sym c.layout.ensures.layout in
-    subst (λ l. IsFoundList l c.self.inside.found) layout_is c.self.invariant
-
 pub find-requires-clause-from : goal.find-requires-clause-from
 find-requires-clause-from c = subst (λ l. IsNodeWithin l c.args.node) (sym c.layout.ensures.layout) (limits-within c.args.graph.now c.args.node c.requires.node)
 

@@ -48,6 +48,3 @@ set_target-requires c =
 
 pub target_node-requires : goal.target_node-requires
 target_node-requires c = target-funded c.args.self.now.funding c.args.target c.requires.target
-
-pub returns-clause-funded : goal.returns-clause-funded
-returns-clause-funded c = rw c.set_target.ensures (ap (λ (v : LimitedFunding). with_tickets v (with_target v.funding.tickets c.args.ticket c.args.target)) c.self.view_is)

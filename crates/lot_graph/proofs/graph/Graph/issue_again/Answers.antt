@@ -18,9 +18,6 @@ returns-clause-sound c = (invariant_of-self c).sound
 pub returns-clause-fits : goal.returns-clause-fits
 returns-clause-fits c = graph-fits _ (invariant_of-self c)
 
-pub put-requires-clause-gap : goal.put-requires-clause-gap
-put-requires-clause-gap c = subst (λ (v : LimitedFunding). at_number v.funding.tickets c.args.ticket ≡ Some None) (sym c.self.view_is) c.requires.gap
-
 pub put-requires-clause-issuer : goal.put-requires-clause-issuer
 put-requires-clause-issuer c =
     let low : c.args.currency ≤ c.self.inside.layout.currencies = node-within _ c.self.invariant (Currency c.args.currency) (subst (λ (v : LimitedFunding). IsCurrency v.funding c.args.currency) (sym c.self.view_is) c.requires.currency) in

@@ -1,9 +1,6 @@
 use Rattle.lot_graph.proofs.Common.{Edge, ap, arith, issued_edges, length, own_edges, sym, ◌++◌, ◌∙◌}
 use Rattle.lot_graph.proofs.walks.EdgesOutOfIterator.next.Goals as goal
 
-pub invariant_of-self : goal.invariant_of-self
-invariant_of-self c = c.self.invariant
-
 pub returns-in-Some-clause-steps : goal.returns-in-Some-clause-steps
 returns-in-Some-clause-steps c =
     let s = c.self.inside in
@@ -16,12 +13,3 @@ returns-in-Some-clause-goes c =
       keeps = tt;
       rests = λ finite. tt;
     }
-
-pub invariant_of-self-in_err-as_mut : goal.invariant_of-self-in_err-as_mut
-invariant_of-self-in_err-as_mut c = c.self.invariant
-
-pub invariant_of-self-in_err-ticket : goal.invariant_of-self-in_err-ticket
-invariant_of-self-in_err-ticket c = c.next_funding.ensures.low
-
-pub invariant_of-self-2 : goal.invariant_of-self-2
-invariant_of-self-2 c = c.next_funding.ensures.low

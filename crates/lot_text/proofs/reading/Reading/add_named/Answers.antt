@@ -1,9 +1,6 @@
 use Rattle.lot_text.proofs.Lemmas.{Gives-memory, Gives-refusal, ap, arith, length, length-append, reading_of, ticket-named, ticket-refused, with_ticket_names, [], ◌∷◌, ◌≡◌}
 use Rattle.lot_text.proofs.reading.Reading.add_named.Goals as goal
 
-pub invariant_of-self : goal.invariant_of-self
-invariant_of-self c = rw c.in_err-push.ensures.items c.self.invariant
-
 pub returns-in_err-push : goal.returns-in_err-push
 returns-in_err-push c = Gives-memory _ c.from_residual-in_err-push.result _ c.from_residual-in_err-push.ensures
 

@@ -2,20 +2,11 @@
 use Rattle.lot_text.proofs.Lemmas.{Gives-memory, IsTrue, Reading, length, reading_of, refl, subst, sym, timed-read, with_timed, ◌<◌}
 use Rattle.lot_text.proofs.reading.Reading.add_timed_command.Goals as goal
 
-pub invariant_of-self : goal.invariant_of-self
-invariant_of-self c = rw c.reserve.ensures.items c.self.invariant
-
 pub returns-in_err-reserve : goal.returns-in_err-reserve
 returns-in_err-reserve c = Gives-memory _ c.from_residual.result _ c.from_residual.ensures
 
-pub invariant_of-self-in_err-reserve-2 : goal.invariant_of-self-in_err-reserve-2
-invariant_of-self-in_err-reserve-2 c = rw (c.reserve.ensures.items, c.reserve-2.ensures.items) c.self.invariant
-
 pub returns-in_err-reserve-2 : goal.returns-in_err-reserve-2
 returns-in_err-reserve-2 c = Gives-memory _ c.from_residual-in_err-reserve-2.result _ c.from_residual-in_err-reserve-2.ensures
-
-pub invariant_of-self-in_err-push : goal.invariant_of-self-in_err-push
-invariant_of-self-in_err-push c = rw (c.reserve.ensures.items, c.reserve-2.ensures.items, c.in_err-push.ensures.kept) c.self.invariant
 
 pub returns-in_err-push : goal.returns-in_err-push
 returns-in_err-push c = Gives-memory _ c.from_residual-in_err-push.result _ c.from_residual-in_err-push.ensures

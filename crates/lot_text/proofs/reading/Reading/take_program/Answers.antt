@@ -1,13 +1,6 @@
 -- The program shares the tables that were read.
-use Rattle.lot_text.proofs.Lemmas.{IfOk-from_err, NamedScript, Reading, Sizes, ap, arith, length, length-map, reading_of, rules, sym, without_seeds, [], ◌∙◌}
+use Rattle.lot_text.proofs.Lemmas.{NamedScript, Reading, Sizes, ap, length, length-map, rules, sym, ◌∙◌}
 use Rattle.lot_text.proofs.reading.Reading.take_program.Goals as goal
-
-pub invariant_of-self : goal.invariant_of-self
-invariant_of-self c = rw c.take.ensures.after (without_seeds (reading_of c.self.inside) c.self.inside.scripts.items c.self.invariant (omega arith))
-
-pub invariant_of-self-2 : goal.invariant_of-self-2
-invariant_of-self-2 c =
-    rw (c.take.ensures.after, c.replace.ensures.after, c.new.ensures.items) (without_seeds (reading_of c.self.inside) [] c.self.invariant (omega arith))
 
 pub new-requires-2 : goal.new-requires-2
 new-requires-2 c =
@@ -34,12 +27,3 @@ new-requires-2 c =
       unit = search rules;
       timed = search rules;
     }
-
-pub returns-in_err-seeds : goal.returns-in_err-seeds
-returns-in_err-seeds c = IfOk-from_err c.from_residual.result _ c.from_residual.ensures.0
-
-pub returns-in_err-scripts : goal.returns-in_err-scripts
-returns-in_err-scripts c = IfOk-from_err c.from_residual-in_err-scripts.result _ c.from_residual-in_err-scripts.ensures.0
-
-pub returns-in_err-tables : goal.returns-in_err-tables
-returns-in_err-tables c = IfOk-from_err c.from_residual-in_err-tables.result _ c.from_residual-in_err-tables.ensures.0

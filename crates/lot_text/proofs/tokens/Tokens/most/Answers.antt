@@ -1,5 +1,5 @@
 -- Each token takes a byte, and all but the last a separator.
-use Rattle.lot_text.proofs.Common.{Bool, List, ap, arith, cond, div_ceil_times, false, filter, length, lt-ltb, nat_le, nat_lt, onto_first, refl, slice_split, suc, sym, true, ℕ, [], ◌+◌, ◌<◌, ◌∷◌, ◌≡◌, ◌≤◌}
+use Rattle.lot_text.proofs.Common.{Bool, List, ap, arith, cond, div_ceil_times, false, filter, length, lt-ltb, nat_le, nat_lt, onto_first, refl, slice_split, suc, sym, true, ℕ, [], ◌+◌, ◌∷◌, ◌≡◌, ◌≤◌}
 use Rattle.lot_text.proofs.tokens.Tokens.most.Goals as goal
 
 -- the number of parts that aren't empty
