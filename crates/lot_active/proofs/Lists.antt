@@ -34,7 +34,8 @@ listed-place v n three listed = by listed.list listed.contains
     by zero there = inl there
     by (suc zero) there = inr (inl there)
     by (suc (suc zero)) there = inr (inr there)
-    by (suc (suc (suc k))) there = absurd (contains-nothing n (subst (λ (xs : List ℕ). Contains xs n) (get_or_past v.lists (suc (suc (suc k))) [] (omega (arith, three))) there))
+    by (suc (suc (suc k))) there = absurd (contains-nothing n (subst (λ (xs : List ℕ). Contains xs n)
+        (get_or_past v.lists (suc (suc (suc k))) [] (omega (arith, three))) there))
 
 pub free-or-listed : (v : NodeLists) (n : ℕ) → length v.lists ≡ 3 → IsFree v n ⊎ IsListed v n
 free-or-listed v n three = by (in-or-not (nodes_of v 0) n) (in-or-not (nodes_of v 1) n) (in-or-not (nodes_of v 2) n)
@@ -43,7 +44,8 @@ free-or-listed v n three = by (in-or-not (nodes_of v 0) n) (in-or-not (nodes_of 
     by (inl a) b c = inr (record { list = 0; contains = a })
     by (inr a) (inl b) c = inr (record { list = 1; contains = b })
     by (inr a) (inr b) (inl c) = inr (record { list = 2; contains = c })
-    by (inr a) (inr b) (inr c) = inl (λ list there. none (listed-place v n three (record { list = list; contains = there })))
+    by (inr a) (inr b) (inr c) =
+        inl (λ list there. none (listed-place v n three (record { list = list; contains = there })))
       where
         none : ¬ Place v n
         none (inl x) = a x
@@ -52,9 +54,11 @@ free-or-listed v n three = by (in-or-not (nodes_of v 0) n) (in-or-not (nodes_of 
 
 -- ---- a node is put into a list
 
-pub push-relists : (v w : NodeLists) (n to : ℕ) → to < length v.lists → IsFree v n → w ≡ with_pushed v to n → Relists v w n to
+pub push-relists : (v w : NodeLists) (n to : ℕ) → to < length v.lists → IsFree v n → w ≡ with_pushed v to n
+    → Relists v w n to
 push-relists v w n to low free is = record {
-  here = subst (λ (xs : List ℕ). Contains xs n) (sym nodes-here) (Contains-append_right (nodes_of v to) (n ∷ []) n (zero, omega arith, refl));
+  here = subst (λ (xs : List ℕ). Contains xs n) (sym nodes-here)
+      (Contains-append_right (nodes_of v to) (n ∷ []) n (zero, omega arith, refl));
   only = only;
   kept = kept;
   back = back;
@@ -66,7 +70,8 @@ push-relists v w n to low free is = record {
     nodes-here = ap (λ (x : NodeLists). nodes_of x to) is ∙ get_or-set_same v.lists to (nodes_of v to ++ n ∷ []) [] low
 
     nodes-other : (k : ℕ) → ¬ (k ≡ to) → nodes_of w k ≡ nodes_of v k
-    nodes-other k off = ap (λ (x : NodeLists). nodes_of x k) is ∙ get_or-set_other v.lists to k (nodes_of v to ++ n ∷ []) [] off
+    nodes-other k off = ap (λ (x : NodeLists). nodes_of x k) is
+        ∙ get_or-set_other v.lists to k (nodes_of v to ++ n ∷ []) [] off
 
     only : (list : ℕ) → In w list n → list ≡ to
     only list there = elim (cases_eq list to) [
@@ -76,13 +81,15 @@ push-relists v w n to low free is = record {
 
     kept : (list m : ℕ) → ¬ (m ≡ n) → In v list m → In w list m
     kept list m apart there = elim (cases_eq list to) [
-      | inl same ↦ subst (λ (xs : List ℕ). Contains xs m) (sym (ap (nodes_of w) same ∙ nodes-here)) (Contains-append_left (nodes_of v to) (n ∷ []) m (subst (λ k. In v k m) same there))
+      | inl same ↦ subst (λ (xs : List ℕ). Contains xs m) (sym (ap (nodes_of w) same ∙ nodes-here))
+          (Contains-append_left (nodes_of v to) (n ∷ []) m (subst (λ k. In v k m) same there))
       | inr off ↦ subst (λ (xs : List ℕ). Contains xs m) (sym (nodes-other list off)) there
     ]
 
     back : (list m : ℕ) → ¬ (m ≡ n) → In w list m → In v list m
     back list m apart there = elim (cases_eq list to) [
-      | inl same ↦ subst (λ k. In v k m) (sym same) (by (Contains-push_cases (nodes_of v to) n m (subst (λ (xs : List ℕ). Contains xs m) (ap (nodes_of w) same ∙ nodes-here) there)))
+      | inl same ↦ subst (λ k. In v k m) (sym same) (by (Contains-push_cases (nodes_of v to) n m
+          (subst (λ (xs : List ℕ). Contains xs m) (ap (nodes_of w) same ∙ nodes-here) there)))
       | inr off ↦ subst (λ (xs : List ℕ). Contains xs m) (nodes-other list off) there
     ]
       where
@@ -91,14 +98,18 @@ push-relists v w n to low free is = record {
         by (inr same) = absurd (apart (sym same))
 
 -- the same, if it was in another before
-pub move-relists : (v u w : NodeLists) (n to : ℕ) → to < length v.lists → length u.lists ≡ length v.lists → IsConsistent v → IsListed v n → ((list place : ℕ) → node_at v list place ≡ Some n → u ≡ with_removed v list place) → IsFree u n → w ≡ with_pushed u to n → Relists v w n to
+pub move-relists : (v u w : NodeLists) (n to : ℕ) → to < length v.lists → length u.lists ≡ length v.lists
+    → IsConsistent v → IsListed v n → ((list place : ℕ) → node_at v list place ≡ Some n → u ≡ with_removed v list place)
+    → IsFree u n → w ≡ with_pushed u to n → Relists v w n to
 move-relists v u w n to low lists consistent listed is free pushed = record {
   here = second.here;
   only = second.only;
   kept = λ list m apart there. second.kept list m apart (after list m apart there);
   back = λ list m apart there. before list m (second.back list m apart there);
-  same = λ list off none. second.same list off (λ there. free list there) ∙ nodes-other list (λ same. none (subst (λ k. In v k n) (sym same) listed.contains));
-  grown = λ none. second.grown (free to) ∙ ap (λ (xs : List ℕ). length xs + 1) (nodes-other to (λ same. none (subst (λ k. In v k n) (sym same) listed.contains)));
+  same = λ list off none. second.same list off (λ there. free list there)
+      ∙ nodes-other list (λ same. none (subst (λ k. In v k n) (sym same) listed.contains));
+  grown = λ none. second.grown (free to) ∙ ap (λ (xs : List ℕ). length xs + 1)
+      (nodes-other to (λ same. none (subst (λ k. In v k n) (sym same) listed.contains)));
 }
   where
     second : Relists u w n to
@@ -113,24 +124,29 @@ move-relists v u w n to low lists consistent listed is free pushed = record {
     list-low : listed.list < length v.lists
     list-low = elim (cases_lt listed.list (length v.lists)) [
       | inl below ↦ below
-      | inr high ↦ absurd (contains-nothing n (subst (λ (xs : List ℕ). Contains xs n) (get_or_past v.lists listed.list [] high) listed.contains))
+      | inr high ↦ absurd (contains-nothing n
+          (subst (λ (xs : List ℕ). Contains xs n) (get_or_past v.lists listed.list [] high) listed.contains))
     ]
 
     nodes-here : nodes_of u listed.list ≡ remove (nodes_of v listed.list) from.0
-    nodes-here = ap (λ (x : NodeLists). nodes_of x listed.list) u-is ∙ get_or-set_same v.lists listed.list (remove (nodes_of v listed.list) from.0) [] list-low
+    nodes-here = ap (λ (x : NodeLists). nodes_of x listed.list) u-is
+        ∙ get_or-set_same v.lists listed.list (remove (nodes_of v listed.list) from.0) [] list-low
 
     nodes-other : (k : ℕ) → ¬ (k ≡ listed.list) → nodes_of u k ≡ nodes_of v k
-    nodes-other k off = ap (λ (x : NodeLists). nodes_of x k) u-is ∙ get_or-set_other v.lists listed.list k (remove (nodes_of v listed.list) from.0) [] off
+    nodes-other k off = ap (λ (x : NodeLists). nodes_of x k) u-is
+        ∙ get_or-set_other v.lists listed.list k (remove (nodes_of v listed.list) from.0) [] off
 
     before : (k m : ℕ) → In u k m → In v k m
     before k m there = elim (cases_eq k listed.list) [
-      | inl same ↦ subst (λ j. In v j m) (sym same) (left-before (nodes_of v listed.list) from.0 m (subst (λ (xs : List ℕ). Contains xs m) (ap (nodes_of u) same ∙ nodes-here) there))
+      | inl same ↦ subst (λ j. In v j m) (sym same) (left-before (nodes_of v listed.list) from.0 m
+          (subst (λ (xs : List ℕ). Contains xs m) (ap (nodes_of u) same ∙ nodes-here) there))
       | inr off ↦ subst (λ (xs : List ℕ). Contains xs m) (nodes-other k off) there
     ]
 
     after : (k m : ℕ) → ¬ (m ≡ n) → In v k m → In u k m
     after k m apart there = elim (cases_eq k listed.list) [
-      | inl same ↦ subst (λ (xs : List ℕ). Contains xs m) (sym (ap (nodes_of u) same ∙ nodes-here)) (still-left (nodes_of v listed.list) from.0 n m from.1 apart (subst (λ j. In v j m) same there))
+      | inl same ↦ subst (λ (xs : List ℕ). Contains xs m) (sym (ap (nodes_of u) same ∙ nodes-here))
+          (still-left (nodes_of v listed.list) from.0 n m from.1 apart (subst (λ j. In v j m) same there))
       | inr off ↦ subst (λ (xs : List ℕ). Contains xs m) (sym (nodes-other k off)) there
     ]
 
@@ -152,7 +168,8 @@ module _ (g : Net) (node : ℕ) (done xs : List ℕ) (each : HasEachOnce (done +
     walk-leads = both.each e (Contains-append_right done (e ∷ rest) e (zero, omega arith, refl))
 
     pub walk-to : (a : EdgePlaces) → g.places e ≡ Some a → a.to ≡ node
-    walk-to a at = let leads = walk-leads in let same : Some a ≡ Some leads.0 = sym at ∙ leads.1 in let equal : a ≡ leads.0 = cc in ap (λ (y : EdgePlaces). y.to) equal ∙ leads.2
+    walk-to a at = let leads = walk-leads in let same : Some a ≡ Some leads.0 = sym at ∙ leads.1 in
+        let equal : a ≡ leads.0 = cc in ap (λ (y : EdgePlaces). y.to) equal ∙ leads.2
 
     pub walk-more : HasEachOnce ((done ++ e ∷ []) ++ rest) (EntersAt g node)
     walk-more = subst (λ (ys : List ℕ). HasEachOnce ys (EntersAt g node)) (sym (append_assoc done (e ∷ []) rest)) both
@@ -178,7 +195,8 @@ module _ (g : Net) (node : ℕ) (done xs : List ℕ) (each : HasEachOnce (done +
         within (y ∷ ys) (suc k) h = let low = within ys k h in omega (arith, low)
 
   pub walk-all : xs ≡ [] → (e : ℕ) (a : EdgePlaces) → g.places e ≡ Some a → a.to ≡ node → Contains done e
-  walk-all none e a at to = subst (λ (ys : List ℕ). Contains ys e) (append_nil done) (subst (λ (ys : List ℕ). Contains (done ++ ys) e) none (each.all e (a, at, to)))
+  walk-all none e a at to = subst (λ (ys : List ℕ). Contains ys e) (append_nil done)
+      (subst (λ (ys : List ℕ). Contains (done ++ ys) e) none (each.all e (a, at, to)))
     where
       append_nil : (ys : List ℕ) → ys ++ [] ≡ ys
       append_nil [] = refl
@@ -205,7 +223,8 @@ set-same [] i x low = absurd (omega (arith, low))
 set-same (y ∷ ys) zero x low = refl
 set-same (y ∷ ys) (suc i) x low = set-same ys i x (omega (arith, low))
 
-pub set-other : {A : Type 0} (xs : List A) (i : ℕ) (x : A) (k : ℕ) → ¬ (k ≡ i) → slice_get (slice_set xs i x) k ≡ slice_get xs k
+pub set-other : {A : Type 0} (xs : List A) (i : ℕ) (x : A) (k : ℕ) → ¬ (k ≡ i)
+    → slice_get (slice_set xs i x) k ≡ slice_get xs k
 set-other [] i x k off = refl
 set-other (y ∷ ys) zero x zero off = absurd (off refl)
 set-other (y ∷ ys) zero x (suc k) off = refl
@@ -222,7 +241,8 @@ first-low v list n consistent front = by (nodes_of v list) (sym front) (consiste
   where
     by : (xs : List ℕ) → slice_get xs 0 ≡ Some n → All (λ node. node < v.nodes) xs → n < v.nodes
     by [] e all = cc
-    by (x ∷ xs) e all = let here = all 0 0 (omega arith) in let is : Some x ≡ Some n = e in let same : x ≡ n = cc in omega (arith, here, same)
+    by (x ∷ xs) e all = let here = all 0 0 (omega arith) in let is : Some x ≡ Some n = e in let same : x ≡ n = cc in
+        omega (arith, here, same)
 
 pub if-none : (o : Option ℕ) (P : Type 0) → P → IfNone o P
 if-none None P p = p
@@ -239,7 +259,8 @@ module _ (v w : NodeLists) (list n : ℕ) (low : list < length v.lists) (front :
 
   pub taken-shorter : length (nodes_of w list) < length (nodes_of v list)
   taken-shorter =
-      let here = ap (λ (x : NodeLists). nodes_of x list) is ∙ get_or-set_same v.lists list (remove (nodes_of v list) 0) [] low in
+      let here = ap (λ (x : NodeLists). nodes_of x list) is
+      ∙ get_or-set_same v.lists list (remove (nodes_of v list) 0) [] low in
       let shorter = by (nodes_of v list) (sym front) in
       omega (arith, shorter, ap (length {A = ℕ}) here)
     where
@@ -248,4 +269,5 @@ module _ (v w : NodeLists) (list n : ℕ) (low : list < length v.lists) (front :
       by (x ∷ xs) e = omega arith
 
   pub taken-others : (other : ℕ) → ¬ (other ≡ list) → nodes_of w other ≡ nodes_of v other
-  taken-others other off = ap (λ (x : NodeLists). nodes_of x other) is ∙ get_or-set_other v.lists list other (remove (nodes_of v list) 0) [] off
+  taken-others other off = ap (λ (x : NodeLists). nodes_of x other) is
+      ∙ get_or-set_other v.lists list other (remove (nodes_of v list) 0) [] off

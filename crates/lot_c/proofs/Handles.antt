@@ -44,32 +44,46 @@ module _ {M : Type 1} {𝓤 : Ura M} {𝓛 : Logic 𝓤} {K : Type 0} {Γ : List
       → Seq K 𝓛 (‵ (box_owns (ghosts.dealloc_token alloc) kernel.the_row p x) ∷ Γ) G
   tests t alloc p x k =
       let O : Fml = box_owns (ghosts.dealloc_token alloc) kernel.the_row p x in
-      use1 𝓛 (given (Testable p) (‵ O)) (fact_use 𝓤 (Testable p) (via 𝓤 _ (snd∗ 𝓤 (sem 𝓛 (lies_at kernel.the_row full_share p x)) (sem 𝓛 (ghosts.dealloc_token alloc (bare (lone kernel.the_row.mir)) p))) (dealloc_token-Testable 𝓛 alloc (bare (lone kernel.the_row.mir)) p)) (guard_i 𝓤 (Testable p) (sem 𝓛 O))) $
+      use1 𝓛 (given (Testable p) (‵ O)) (fact_use 𝓤 (Testable p) (via 𝓤 _ (snd∗ 𝓤 (sem 𝓛
+      (lies_at kernel.the_row full_share p x)) (sem 𝓛 (ghosts.dealloc_token alloc (bare (lone kernel.the_row.mir)) p)))
+      (dealloc_token-Testable 𝓛 alloc (bare (lone kernel.the_row.mir)) p)) (guard_i 𝓤 (Testable p) (sem 𝓛 O))) $
       learn t (λ e. k e)
 
 module _ {M : Type 1} {𝓤 : Ura M} {𝓛 : Logic 𝓤} {K : Type 0} {Γ : List (Item 𝓤)} {G : Goal 𝓤 𝓛.H} where
   -- by what it holds: nothing, at null, or a box
   pub handle_out : K → (at : Ptr) (alloc : Global) (holds : KernelValue) (vs : List Val)
-      → ((hv : Val) → holds ≡ None → at ≡ null_ptr → vs ≡ null_word hv ∷ [] → Fits E.al hv → Seq K 𝓛 (‵ ((P E).own_val alloc (hv ∷ [])) ∷ Γ) G)
-      → ((b o : ℕ) (hv : Val) (x : kernel.the_row.Denot) → holds ≡ Some x → at ≡ block_ptr b o → vs ≡ word E hv b o ∷ [] → Fits E.al hv → Testable (block_ptr b o)
-      → Seq K 𝓛 (‵ (box_owns (ghosts.dealloc_token alloc) kernel.the_row (block_ptr b o) x) ∷ ‵ ((P E).own_val alloc (hv ∷ [])) ∷ Γ) G)
+      → ((hv : Val) → holds ≡ None → at ≡ null_ptr → vs ≡ null_word hv ∷ [] → Fits E.al hv
+      → Seq K 𝓛 (‵ ((P E).own_val alloc (hv ∷ [])) ∷ Γ) G)
+      → ((b o : ℕ) (hv : Val) (x : kernel.the_row.Denot) → holds ≡ Some x → at ≡ block_ptr b o → vs ≡ word E hv b o ∷ []
+      → Fits E.al hv → Testable (block_ptr b o)
+      → Seq K 𝓛 (‵ (box_owns (ghosts.dealloc_token alloc) kernel.the_row (block_ptr b o) x)
+      ∷ ‵ ((P E).own_val alloc (hv ∷ [])) ∷ Γ) G)
       → Seq K 𝓛 (‵ (handle.the_row.own_val (held at alloc holds) vs) ∷ Γ) G
   handle_out t at alloc None vs none some =
-      fsplit t $ fpick t (λ vss. fsplit t $ feq_l t (λ ev. fsplit t $ feq_l t (λ ep. fsplit t $ handle_tells E.al t alloc vss.1.0 (λ hv ea fa. move t (1 ∷ []) $ drop t $ move t (1 ∷ []) $
+      fsplit t $ fpick t (λ vss. fsplit t $ feq_l t (λ ev. fsplit t $ feq_l t
+      (λ ep. fsplit t $ handle_tells E.al t alloc vss.1.0 (λ hv ea fa. move t (1 ∷ []) $ drop t $ move t (1 ∷ []) $
       feq_l t (λ e. none hv refl e
       (subst (λ (p : Ptr). vs ≡ vstruct (of_list (ptr_val p ∷ hv ∷ [])) ∷ []) e
-      (subst (λ (ws : List Val). vs ≡ vstruct (of_list (ptr_val at ∷ (ws ++ []))) ∷ []) ea (subst (λ (ps : List Val). vs ≡ vstruct (of_list (ps ++ (vss.1.0 ++ []))) ∷ []) ep ev))) fa)))))
+      (subst (λ (ws : List Val). vs ≡ vstruct (of_list (ptr_val at ∷ (ws ++ []))) ∷ []) ea
+      (subst (λ (ps : List Val). vs ≡ vstruct (of_list (ps ++ (vss.1.0 ++ []))) ∷ []) ep ev))) fa)))))
   handle_out t at alloc (Some x) vs none some =
-      fsplit t $ fpick t (λ vss. fsplit t $ feq_l t (λ ev. fsplit t $ feq_l t (λ ep. fsplit t $ handle_tells E.al t alloc vss.1.0 (λ hv ea fa. move t (1 ∷ []) $ drop t $ move t (1 ∷ []) $
-      in_a_block t at (λ p. box_owns (ghosts.dealloc_token alloc) kernel.the_row p x) (fst∗ 𝓤 (never 𝓤) (sem 𝓛 (ghosts.dealloc_token alloc (bare (lone kernel.the_row.mir)) null_ptr))) (λ b o e.
+      fsplit t $ fpick t (λ vss. fsplit t $ feq_l t (λ ev. fsplit t $ feq_l t
+      (λ ep. fsplit t $ handle_tells E.al t alloc vss.1.0 (λ hv ea fa. move t (1 ∷ []) $ drop t $ move t (1 ∷ []) $
+      in_a_block t at (λ p. box_owns (ghosts.dealloc_token alloc) kernel.the_row p x)
+      (fst∗ 𝓤 (never 𝓤) (sem 𝓛 (ghosts.dealloc_token alloc (bare (lone kernel.the_row.mir)) null_ptr))) (λ b o e.
       tests t alloc (block_ptr b o) x (λ te. some b o hv x refl e
       (subst (λ (p : Ptr). vs ≡ vstruct (of_list (ptr_val p ∷ hv ∷ [])) ∷ []) e
-      (subst (λ (ws : List Val). vs ≡ vstruct (of_list (ptr_val at ∷ (ws ++ []))) ∷ []) ea (subst (λ (ps : List Val). vs ≡ vstruct (of_list (ps ++ (vss.1.0 ++ []))) ∷ []) ep ev))) fa te))))))
+      (subst (λ (ws : List Val). vs ≡ vstruct (of_list (ptr_val at ∷ (ws ++ []))) ∷ []) ea
+      (subst (λ (ps : List Val). vs ≡ vstruct (of_list (ps ++ (vss.1.0 ++ []))) ∷ []) ep ev))) fa te))))))
 
 module _ {M : Type 1} {𝓤 : Ura M} {𝓛 : Logic 𝓤} {K : Type 0} {Γ : List (Item 𝓤)} {G : Goal 𝓤 𝓛.H} where
   -- a handle of nothing
   pub handle_in : K → (alloc : Global) (hv : Val)
-      → Step K 𝓛 (‵ (handle.the_row.own_val (held null_ptr alloc None) (null_word hv ∷ [])) ∷ Γ) G (‵ ((P E).own_val alloc (hv ∷ [])) ∷ Γ) G
+      → Step K 𝓛 (‵ (handle.the_row.own_val (held null_ptr alloc None) (null_word hv ∷ [])) ∷ Γ) G
+      (‵ ((P E).own_val alloc (hv ∷ [])) ∷ Γ) G
   handle_in t alloc hv = step (λ s. let v : Val = null_word hv in
-      nothing t $ move t (1 ∷ 0 ∷ []) $ fjoin t $ feq_i t (List Val) (ptr_val null_ptr ∷ []) (ptr_val null_ptr ∷ []) refl $ fjoin t $ feq_i t (List Val) (v ∷ []) (v ∷ []) refl $ fjoin t $
-      fpack t (Valss (RawPtr ∷ Heap.the_row ∷ [])) (within (shape handle.the_type) (to handle.the_type (held null_ptr alloc None)) (v ∷ [])) (ptr_val null_ptr ∷ [], (hv ∷ [], tt)) $ feq_i t Ptr null_ptr null_ptr refl $ move t (1 ∷ 0 ∷ []) $ fjoin t $ s)
+      nothing t $ move t (1 ∷ 0 ∷ []) $ fjoin t $ feq_i t (List Val) (ptr_val null_ptr ∷ [])
+      (ptr_val null_ptr ∷ []) refl $ fjoin t $ feq_i t (List Val) (v ∷ []) (v ∷ []) refl $ fjoin t $
+      fpack t (Valss (RawPtr ∷ Heap.the_row ∷ []))
+      (within (shape handle.the_type) (to handle.the_type (held null_ptr alloc None)) (v ∷ []))
+      (ptr_val null_ptr ∷ [], (hv ∷ [], tt)) $ feq_i t Ptr null_ptr null_ptr refl $ move t (1 ∷ 0 ∷ []) $ fjoin t $ s)

@@ -9,10 +9,13 @@ pub record HaveSome {X : Type 0} (R : X → X → Type 0) (place : ℕ) (old new
 
 module _ {X : Type 0} (R : X → X → Type 0) where
   pub some-none : (old : List X) → HaveSome R 0 old old
-  some-none old = record { count = refl; changed = λ i d below there. absurd (omega (arith, below)); left = λ i d past there. refl }
+  some-none old =
+      record { count = refl; changed = λ i d below there. absurd (omega (arith, below)); left = λ i d past there. refl }
 
-  pub some-one : (place : ℕ) (old new next : List X) (was now : X) → place < length old → was ≡ get_or new place was → next ≡ set new place now → R was now → HaveSome R place old new → HaveSome R (place + 1) old next
-  some-one place old new next was now below is put changes some = record { count = ap length put ∙ length-set new place now ∙ some.count; changed = changed; left = left }
+  pub some-one : (place : ℕ) (old new next : List X) (was now : X) → place < length old → was ≡ get_or new place was
+      → next ≡ set new place now → R was now → HaveSome R place old new → HaveSome R (place + 1) old next
+  some-one place old new next was now below is put changes some =
+      record { count = ap length put ∙ length-set new place now ∙ some.count; changed = changed; left = left }
     where
       there : place < length new
       there = omega (arith, below, some.count)
@@ -25,11 +28,14 @@ module _ {X : Type 0} (R : X → X → Type 0) where
         where
           by : (i ≡ place) ⊎ (i ≢ place) → R (get_or old i d) (get_or next i d)
           by (inl same) =
-              let here : get_or next i d ≡ now = ap (λ (xs : List X). get_or xs i d) put ∙ get_or-set_at new place i now d same there in
-              let old_here : get_or old i d ≡ was = ap (λ k. get_or old k d) same ∙ sym (some.left place d (omega arith) below) ∙ sym (get_or_default new place was d there) ∙ sym is in
+              let here : get_or next i d ≡ now = ap (λ (xs : List X). get_or xs i d) put
+              ∙ get_or-set_at new place i now d same there in
+              let old_here : get_or old i d ≡ was = ap (λ k. get_or old k d) same
+              ∙ sym (some.left place d (omega arith) below) ∙ sym (get_or_default new place was d there) ∙ sym is in
               subst (λ x. R (get_or old i d) x) (sym here) (subst (λ x. R x now) (sym old_here) changes)
           by (inr apart) =
-              subst (λ x. R (get_or old i d) x) (sym (other i d apart)) (some.changed i d (lower (cases_lt i place)) within)
+              subst (λ x. R (get_or old i d) x) (sym (other i d apart))
+              (some.changed i d (lower (cases_lt i place)) within)
             where
               lower : (i < place) ⊎ (place ≤ i) → i < place
               lower (inl h) = h

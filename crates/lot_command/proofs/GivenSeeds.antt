@@ -6,8 +6,12 @@ came_seeded seed (Ok program) = refl
 came_seeded seed (Err fault) = refl
 
 -- the line of a refused input is its text in each view, with any seed
-pub refused-shown : {T : Type 0} (contents : T → Option (List ℕ)) (old new : Watch T) (result : Result Played IoFault) (view : View) (title : List ℕ) (seed : Option ℕ) (bytes : List ℕ) (fault : InputFault)
-    → seeded seed (program_in bytes) ≡ Err fault → Plays contents old new result Refused (fault_line fault) → Plays contents old new result (came_of (program_in bytes)) (text_of view title seed bytes)
+pub refused-shown : {T : Type 0} (contents : T → Option (List ℕ)) (old new : Watch T) (result : Result Played IoFault)
+    (view : View) (title : List ℕ) (seed : Option ℕ) (bytes : List ℕ) (fault : InputFault)
+    → seeded seed (program_in bytes) ≡ Err fault → Plays contents old new result Refused (fault_line fault)
+    → Plays contents old new result (came_of (program_in bytes)) (text_of view title seed bytes)
 refused-shown contents old new result view title seed bytes fault is plays =
-    subst (λ (came : Played). Plays contents old new result came (text_of view title seed bytes)) (came_seeded seed (program_in bytes))
-    (subst (λ (given : Result Program InputFault). Plays contents old new result (came_of given) (shown_of view title given)) (sym is) plays)
+    subst (λ (came : Played). Plays contents old new result came (text_of view title seed bytes))
+    (came_seeded seed (program_in bytes))
+    (subst (λ (given : Result Program InputFault).
+    Plays contents old new result (came_of given) (shown_of view title given)) (sym is) plays)

@@ -4,7 +4,8 @@ use Rattle.lot_curves.proofs.Common.{Bool, Curves, List, Stretch, Ticks, ap, app
 -- ---- one element after another
 
 -- the first ones are changed, and one more
-pub changed-more : {X : Type 0} (f : X → X) (xs ys : List X) (i : ℕ) (d : X) → i < length xs → ys ≡ map f (take i xs) ++ drop i xs → set ys i (f (get_or ys i d)) ≡ map f (take (i + 1) xs) ++ drop (i + 1) xs
+pub changed-more : {X : Type 0} (f : X → X) (xs ys : List X) (i : ℕ) (d : X) → i < length xs
+    → ys ≡ map f (take i xs) ++ drop i xs → set ys i (f (get_or ys i d)) ≡ map f (take (i + 1) xs) ++ drop (i + 1) xs
 changed-more f xs ys i d below is =
     let x = get_or xs i d in
     let first = map f (take i xs) in
@@ -21,33 +22,43 @@ changed-more f xs ys i d below is =
 
 module _ (from to : ℕ) where
   last-along : (last : ℕ) (stretches : List Stretch)
-      → fold (λ last s. max s.end last) (min last to - from) (map (stretch_between from to) stretches) ≡ min (fold (λ last s. max s.end last) last stretches) to - from
+      → fold (λ last s. max s.end last) (min last to - from)
+      (map (stretch_between from to) stretches) ≡ min (fold (λ last s. max s.end last) last stretches) to - from
   last-along last [] = refl
   last-along last (s ∷ stretches) =
       let here : max (min s.end to - from) (min last to - from) ≡ min (max s.end last) to - from = omega arith in
-      ap (λ n. fold (λ last (s : Stretch). max s.end last) n (map (stretch_between from to) stretches)) here ∙ last-along (max s.end last) stretches
+      ap (λ n. fold (λ last (s : Stretch). max s.end last) n (map (stretch_between from to) stretches)) here
+      ∙ last-along (max s.end last) stretches
 
-  pub last_end-between : (stretches : List Stretch) → last_end (map (stretch_between from to) stretches) ≡ min (last_end stretches) to - from
+  pub last_end-between : (stretches : List Stretch)
+      → last_end (map (stretch_between from to) stretches) ≡ min (last_end stretches) to - from
   last_end-between stretches =
       let none : 0 ≡ min 0 to - from = omega arith in
-      ap (λ n. fold (λ last (s : Stretch). max s.end last) n (map (stretch_between from to) stretches)) none ∙ last-along 0 stretches
+      ap (λ n. fold (λ last (s : Stretch). max s.end last) n (map (stretch_between from to) stretches)) none
+      ∙ last-along 0 stretches
 
   -- ---- the ticks of an interval
 
-  own-between : (t : ℕ) (stretches : List Stretch) → stretches_of t (map (stretch_between from to) stretches) ≡ map (stretch_between from to) (stretches_of t stretches)
+  own-between : (t : ℕ) (stretches : List Stretch) → stretches_of t (map (stretch_between from to) stretches)
+      ≡ map (stretch_between from to) (stretches_of t stretches)
   own-between t [] = refl
   own-between t (s ∷ stretches) = at (s.thread == t) (own-between t stretches)
     where
-      at : (b : Bool) → stretches_of t (map (stretch_between from to) stretches) ≡ map (stretch_between from to) (stretches_of t stretches)
-          → cond b (stretch_between from to s ∷ stretches_of t (map (stretch_between from to) stretches)) (stretches_of t (map (stretch_between from to) stretches)) ≡ map (stretch_between from to) (cond b (s ∷ stretches_of t stretches) (stretches_of t stretches))
+      at : (b : Bool) → stretches_of t (map (stretch_between from to) stretches) ≡ map (stretch_between from to)
+          (stretches_of t stretches)
+          → cond b (stretch_between from to s ∷ stretches_of t (map (stretch_between from to) stretches))
+          (stretches_of t (map (stretch_between from to) stretches)) ≡ map (stretch_between from to)
+          (cond b (s ∷ stretches_of t stretches) (stretches_of t stretches))
       at true own = ap (λ (xs : List Stretch). stretch_between from to s ∷ xs) own
       at false own = own
 
   module _ (tick : ℕ) (within : from + tick ≤ to) where
-    part-between : (s : Stretch) → part_at Ticks from s + part_at Ticks tick (stretch_between from to s) ≡ part_at Ticks (from + tick) s
+    part-between : (s : Stretch)
+        → part_at Ticks from s + part_at Ticks tick (stretch_between from to s) ≡ part_at Ticks (from + tick) s
     part-between s = omega (arith, within)
 
-    had-between : (stretches : List Stretch) → had_at Ticks from stretches + had_at Ticks tick (map (stretch_between from to) stretches) ≡ had_at Ticks (from + tick) stretches
+    had-between : (stretches : List Stretch) → had_at Ticks from stretches
+        + had_at Ticks tick (map (stretch_between from to) stretches) ≡ had_at Ticks (from + tick) stretches
     had-between [] = refl
     had-between (s ∷ stretches) =
         omega (
@@ -59,6 +70,8 @@ module _ (from to : ℕ) where
           sum_by-cons (part_at Ticks (from + tick)) s stretches,
         )
 
-pub interval-rises : (curves : Curves) (from to tick t : ℕ) → from + tick ≤ to → share_at Ticks curves from t + share_at Ticks (curves_between from to curves) tick t ≡ share_at Ticks curves (from + tick) t
+pub interval-rises : (curves : Curves) (from to tick t : ℕ) → from + tick ≤ to → share_at Ticks curves from t
+    + share_at Ticks (curves_between from to curves) tick t ≡ share_at Ticks curves (from + tick) t
 interval-rises curves from to tick t within =
-    ap (λ (xs : List Stretch). share_at Ticks curves from t + had_at Ticks tick xs) (own-between from to t curves.stretches) ∙ had-between from to tick within (stretches_of t curves.stretches)
+    ap (λ (xs : List Stretch). share_at Ticks curves from t + had_at Ticks tick xs)
+    (own-between from to t curves.stretches) ∙ had-between from to tick within (stretches_of t curves.stretches)

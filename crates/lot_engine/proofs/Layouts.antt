@@ -13,30 +13,39 @@ step-mutexes : (s : State) (e : Event) (count : ℕ) → HasMutexes count s → 
 step-mutexes s e count has = kept (HasMutexes count) (change-mutexes (by_event s e) s count) (step-leads s e) has
 
 module _ (program : Program) where
-  console-mutexes : (w : World) (commands : List Command) (count : ℕ) → HasMutexes count w.state → HasMutexes count (console_turn program w commands).world.state
+  console-mutexes : (w : World) (commands : List Command) (count : ℕ) → HasMutexes count w.state
+      → HasMutexes count (console_turn program w commands).world.state
   console-mutexes w [] count has = has
-  console-mutexes w (c ∷ cs) count has = step-mutexes w.state (event.Command (resolved w.tickets (next_name w) c)) count has
+  console-mutexes w (c ∷ cs) count has =
+      step-mutexes w.state (event.Command (resolved w.tickets (next_name w) c)) count has
 
-  turn-mutexes : (w : World) (actor count : ℕ) → HasMutexes count w.state → HasMutexes count (system_turn program w actor).world.state
+  turn-mutexes : (w : World) (actor count : ℕ) → HasMutexes count w.state
+      → HasMutexes count (system_turn program w actor).world.state
   turn-mutexes w actor count has = by (actor == 0)
     where
-      by : (console : Bool) → HasMutexes count (cond {A = TurnMade} console (console_turn program w w.commands) (processor_turn w actor (actor_event program w actor))).world.state
+      by : (console : Bool) → HasMutexes count (cond {A = TurnMade} console (console_turn program w w.commands)
+          (processor_turn w actor (actor_event program w actor))).world.state
       by true = console-mutexes w w.commands count has
       by false = step-mutexes w.state (actor_event program w actor) count has
 
-  after-mutexes : (w : World) (actors : List ℕ) (count : ℕ) → HasMutexes count w.state → HasMutexes count (system_after program w actors).state
+  after-mutexes : (w : World) (actors : List ℕ) (count : ℕ) → HasMutexes count w.state
+      → HasMutexes count (system_after program w actors).state
   after-mutexes w [] count has = has
-  after-mutexes w (actor ∷ actors) count has = after-mutexes (system_turn program w actor).world actors count (turn-mutexes w actor count has)
+  after-mutexes w (actor ∷ actors) count has =
+      after-mutexes (system_turn program w actor).world actors count (turn-mutexes w actor count has)
 
   run-mutexes : (history : List ℕ) → length (system_run program history).state.mutexes ≡ holders program.limits
-  run-mutexes history = after-mutexes (opening_world program) history (holders program.limits) (length-replicate (holders program.limits) (record { owner = None; waiters = [] }))
+  run-mutexes history = after-mutexes (opening_world program) history (holders program.limits)
+      (length-replicate (holders program.limits) (record { owner = None; waiters = [] }))
 
   -- the layout of a kernel in the state after a run is the program's
-  module _ (history : List ℕ) (s : State) (is : s ≡ (system_run program history).state) (limits : s.limits ≡ program.limits) (above : FoundNodes) where
+  module _ (history : List ℕ) (s : State) (is : s ≡ (system_run program history).state)
+      (limits : s.limits ≡ program.limits) (above : FoundNodes) where
     layout-is : record { tickets = s.limits.tickets; currencies = s.limits.currencies; threads = s.limits.threads; mutexes = length s.mutexes }
         ≡ (let l : Layout = record { tickets = program.limits.tickets; currencies = program.limits.currencies; threads = program.limits.threads; mutexes = holders program.limits } in l)
     layout-is =
-        ap₂ (λ (l : Sizes) (m : ℕ). let layout : Layout = record { tickets = l.tickets; currencies = l.currencies; threads = l.threads; mutexes = m } in layout) limits
+        ap₂ (λ (l : Sizes) (m : ℕ). let layout : Layout =
+        record { tickets = l.tickets; currencies = l.currencies; threads = l.threads; mutexes = m } in layout) limits
         (ap (λ (x : State). length x.mutexes) is ∙ run-mutexes history)
 
     pub layout-for : HasLayoutOf s above → HasLayoutFor program above

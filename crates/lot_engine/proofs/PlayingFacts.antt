@@ -21,7 +21,8 @@ module _ (old : Seen) (actor : ℕ) (e : Event) (r : Reply) (is : (turn_in old a
 
 module _ (program : Program) (actors : List ℕ) (old : Seen) (has : HasPlayed program actors old) (actor : ℕ) where
   pub turn-is : turn_in old actor ≡ system_turn program (system_run program actors) actor
-  turn-is = ap (λ (p : Program). system_turn p (world_of old) actor) has.program_is ∙ ap (λ (w : World). system_turn program w actor) has.world
+  turn-is = ap (λ (p : Program). system_turn p (world_of old) actor) has.program_is
+      ∙ ap (λ (w : World). system_turn program w actor) has.world
 
   pub played-more : (now : Seen) → IsPlayed old actor now → HasPlayed program (actors ++ actor ∷ []) now
   played-more now is =
@@ -33,6 +34,8 @@ module _ (program : Program) (actors : List ℕ) (old : Seen) (has : HasPlayed p
       }
 
 -- the report of a system is that of the history that the turns left
-pub report-is : (program : Program) (seen : Seen) → HasPlayed program program.schedule seen → report seen.setting.program seen.history ≡ report program (system_run program program.schedule).history
+pub report-is : (program : Program) (seen : Seen) → HasPlayed program program.schedule seen
+    → report seen.setting.program seen.history ≡ report program (system_run program program.schedule).history
 report-is program seen has =
-    ap (λ (p : Program). report p seen.history) has.program_is ∙ ap (report program) (sym has.past ∙ ap (λ (w : World). w.history) has.world)
+    ap (λ (p : Program). report p seen.history) has.program_is
+    ∙ ap (report program) (sym has.past ∙ ap (λ (w : World). w.history) has.world)

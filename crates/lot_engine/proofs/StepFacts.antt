@@ -3,7 +3,8 @@ use Rattle.lot_engine.proofs.Common.{Action, Event, KeepsThreads, Some, State, p
 use Rattle.lot_machine.specs.declared.event.Event.TheVariants as event
 
 processor-same : (s : State) (e : Event) (p : ℕ) → processor_of e ≡ Some p → KeepsThreads s (step s e).state
-processor-same s e p on = let sizes = step-sizes s e p on in record { threads = sizes.2; records = sizes.1; limits = sizes.0 }
+processor-same s e p on = let sizes = step-sizes s e p on in
+    record { threads = sizes.2; records = sizes.1; limits = sizes.0 }
 
 pub draws-same : (s : State) (p d : ℕ) → KeepsThreads s (step s (event.Draw p d)).state
 draws-same s p d = processor-same s (event.Draw p d) p refl

@@ -12,19 +12,24 @@ wake-contexts w p t = at (event_refusal w.state (event.Wake t))
     at (Some why) = refl
 
 module _ (program : Program) (w : World) (t : ℕ) (some : 0 < t) where
-  pub wake-turn : system_turn program w (program.limits.processors + t) ≡ processor_turn w (program.limits.processors + t) (event.Wake t)
+  pub wake-turn : system_turn program w (program.limits.processors + t)
+      ≡ processor_turn w (program.limits.processors + t) (event.Wake t)
   wake-turn =
       let actor : ℕ = program.limits.processors + t in
       let no : (actor == 0) ≡ false = ne_eqb actor 0 (λ e. omega (arith, some, e)) in
-      let past : nat_le actor program.limits.processors ≡ false = lt-leb actor program.limits.processors (omega (arith, some)) in
+      let past : nat_le actor program.limits.processors ≡ false =
+      lt-leb actor program.limits.processors (omega (arith, some)) in
       let whom : actor - program.limits.processors ≡ t = omega arith in
       rw (no, past, whom) refl
 
-  pub wake-answer : (r : Reply) → r ≡ (step w.state (event.Wake t)).reply → (system_turn program w (program.limits.processors + t)).answer ≡ Answered (event.Wake t) r
+  pub wake-answer : (r : Reply) → r ≡ (step w.state (event.Wake t)).reply
+      → (system_turn program w (program.limits.processors + t)).answer ≡ Answered (event.Wake t) r
   wake-answer r replied = rw (wake-turn, replied) refl
 
-module _ (program : Program) (w : World) (s : State) (places : List Place) (seeds tickets : List ℕ) (spent : ℕ) (held : IsHeld program w s places seeds tickets spent) (t : ℕ) (some : 0 < t) where
-  pub wake-held : (after : State) → after ≡ (step s (event.Wake t)).state → IsHeld program (system_turn program w (program.limits.processors + t)).world after places seeds tickets spent
+module _ (program : Program) (w : World) (s : State) (places : List Place) (seeds tickets : List ℕ) (spent : ℕ)
+    (held : IsHeld program w s places seeds tickets spent) (t : ℕ) (some : 0 < t) where
+  pub wake-held : (after : State) → after ≡ (step s (event.Wake t)).state
+      → IsHeld program (system_turn program w (program.limits.processors + t)).world after places seeds tickets spent
   wake-held after state =
       let actor : ℕ = program.limits.processors + t in
       let sizes = other-sizes s (event.Wake t) (λ same. cc) in

@@ -35,17 +35,20 @@ refuses : {A E : Type 0} (P : A → Type 0) (e : E) → Reads {A = A} (Err e) P
 refuses P e = record { holds = tt }
 
 -- what is read after something of which this holds
-then-read : {A B E : Type 0} {read : Result A E} {next : A → Result B E} (P : A → Type 0) (Q : B → Type 0) → Reads read P → ((x : A) → P x → Reads (next x) Q) → Reads (read >>= next) Q
+then-read : {A B E : Type 0} {read : Result A E} {next : A → Result B E} (P : A → Type 0) (Q : B → Type 0)
+    → Reads read P → ((x : A) → P x → Reads (next x) Q) → Reads (read >>= next) Q
 then-read {read = Ok x} P Q first after = after x first.holds
 then-read {read = Err e} P Q first after = refuses Q e
 
 -- what is read after anything
-any-read : {A B E : Type 0} (read : Result A E) {next : A → Result B E} (Q : B → Type 0) → ((x : A) → Reads (next x) Q) → Reads (read >>= next) Q
+any-read : {A B E : Type 0} (read : Result A E) {next : A → Result B E} (Q : B → Type 0) → ((x : A) → Reads (next x) Q)
+    → Reads (read >>= next) Q
 any-read (Ok x) Q after = after x
 any-read (Err e) Q after = refuses Q e
 
 -- what is read if no check fails
-if-passes : {A : Type 0} (P : A → Type 0) (checks : List (Bool × InputRefusal)) (x : A) → (first_failing checks ≡ None → P x) → Reads (checked checks x) P
+if-passes : {A : Type 0} (P : A → Type 0) (checks : List (Bool × InputRefusal)) (x : A)
+    → (first_failing checks ≡ None → P x) → Reads (checked checks x) P
 if-passes P checks x holds = at (first_failing checks) refl
   where
     at : (o : Option InputRefusal) → first_failing checks ≡ o → Reads (checked checks x) P
@@ -68,7 +71,8 @@ number-within first last token = at (number_of token) refl
         let checks = (nat_lt n first || nat_lt last n, BadNumber) ∷ [] in
         rw is
         (if-passes (IsBetween first last) checks n (λ passes.
-        let parts = or_parts (nat_lt n first) (nat_lt last n) (all-pass checks passes).0 in (ltb-false n first parts.0, ltb-false last n parts.1)))
+        let parts = or_parts (nat_lt n first) (nat_lt last n) (all-pass checks passes).0 in
+        (ltb-false n first parts.0, ltb-false last n parts.1)))
 
 -- a name has at most 16 bytes
 abbrev IsShortName : List ℕ → Type 0
@@ -144,7 +148,8 @@ HasScripts count unclosed = (count ≤ 256) × IfSome unclosed (λ _. count < 25
 -- that a reading keeps it whose other fields alone have changed.
 abbrev IsRead : Reading → Type 0
 IsRead r =
-    AreSizes r.processors r.quantum r.tickets r.currencies r.threads r.unit r.duration × (length r.ports ≤ 256) × (length r.mutexes ≤ 256) × HasScripts (length r.scripts) r.unclosed
+    AreSizes r.processors r.quantum r.tickets r.currencies r.threads r.unit r.duration × (length r.ports ≤ 256)
+    × (length r.mutexes ≤ 256) × HasScripts (length r.scripts) r.unclosed
     × All HasShortName r.commands
 
 -- at the start
@@ -166,23 +171,28 @@ opening-read is_timed unit is = (
 )
 
 -- one command more, with a short name
-naming-kept : (r : Reading) → IsRead r → (name : Option ℕ) (c : Command) → HasShortName c → Reads (add_naming r name c) IsRead
+naming-kept : (r : Reading) → IsRead r → (name : Option ℕ) (c : Command) → HasShortName c
+    → Reads (add_naming r name c) IsRead
 naming-kept r kept name c short =
-    if-passes IsRead ((nat_le 100000 (length r.commands), TooLong) ∷ []) (record r { commands = r.commands ++ c ∷ []; names = r.names ++ in_time r name; times = r.times ++ in_time r r.time })
+    if-passes IsRead ((nat_le 100000 (length r.commands), TooLong) ∷ [])
+    (record r { commands = r.commands ++ c ∷ []; names = r.names ++ in_time r name; times = r.times ++ in_time r r.time })
     (λ _. (kept.0, kept.1, kept.2, kept.3, All-push HasShortName r.commands c kept.4 short))
 
 module _ (r : Reading) (kept : IsRead r) where
   -- ---- the header
 
   -- a reading with other sizes
-  resized : (processors quantum tickets currencies threads : ℕ) (duration : Option ℕ) → AreSizes processors quantum tickets currencies threads r.unit duration
+  resized : (processors quantum tickets currencies threads : ℕ) (duration : Option ℕ)
+      → AreSizes processors quantum tickets currencies threads r.unit duration
       → Reads {E = InputRefusal} (Ok (record r { processors = processors; quantum = quantum; tickets = tickets; currencies = currencies; threads = threads; duration = duration })) IsRead
   resized processors quantum tickets currencies threads duration sizes =
-      reads IsRead (record r { processors = processors; quantum = quantum; tickets = tickets; currencies = currencies; threads = threads; duration = duration }) (sizes, kept.1, kept.2, kept.3, kept.4)
+      reads IsRead (record r { processors = processors; quantum = quantum; tickets = tickets; currencies = currencies; threads = threads; duration = duration })
+      (sizes, kept.1, kept.2, kept.3, kept.4)
 
   -- a line of the header that chooses options, if it chooses any
   option-kept : (tokens : List (List ℕ)) (chosen : Option Options) → Reads (option_line r tokens chosen) IsRead
-  option-kept [] (Some options) = if-passes IsRead ((not r.is_timed, BadLine) ∷ []) (record r { options = options }) (λ _. kept)
+  option-kept [] (Some options) =
+      if-passes IsRead ((not r.is_timed, BadLine) ∷ []) (record r { options = options }) (λ _. kept)
   option-kept tokens chosen = refuses IsRead BadLine
 
   -- a line of the header
@@ -199,12 +209,14 @@ module _ (r : Reading) (kept : IsRead r) where
       (record { of_processors = old.of_processors; of_quantum = within; of_tickets = old.of_tickets; of_currencies = old.of_currencies; of_threads = old.of_threads; of_unit = old.of_unit; time = old.time }))
   header-kept header.Turns (t ∷ []) = any-read _ IsRead (λ n. reads IsRead (record r { turns = n }) kept)
   header-kept header.For (t ∷ []) =
-      any-read (checked ((not r.is_timed, BadLine) ∷ []) t) IsRead (λ given. then-read (IsBetween 1 4294967295) IsRead (number-within 1 4294967295 given) (λ n within.
+      any-read (checked ((not r.is_timed, BadLine) ∷ []) t) IsRead
+      (λ given. then-read (IsBetween 1 4294967295) IsRead (number-within 1 4294967295 given) (λ n within.
       let old = kept.0 in
       resized r.processors r.quantum r.tickets r.currencies r.threads (Some n)
       (record { of_processors = old.of_processors; of_quantum = old.of_quantum; of_tickets = old.of_tickets; of_currencies = old.of_currencies; of_threads = old.of_threads; of_unit = old.of_unit; time = omega (arith, within.1) })))
   header-kept header.Seed tokens =
-      any-read (checked ((not (length tokens == r.processors), BadLine) ∷ []) tokens) IsRead (λ given. any-read (each (number_between 1 2147483646) given) IsRead (λ seeds. reads IsRead (record r { seeds = Some seeds }) kept))
+      any-read (checked ((not (length tokens == r.processors), BadLine) ∷ []) tokens) IsRead (λ given. any-read
+      (each (number_between 1 2147483646) given) IsRead (λ seeds. reads IsRead (record r { seeds = Some seeds }) kept))
   header-kept header.Limits (t ∷ c ∷ h ∷ []) =
       then-read (IsBetween 1 65535) IsRead (number-within 1 65535 t) (λ tickets of_tickets.
       then-read (IsBetween 1 4096) IsRead (number-within 1 4096 c) (λ currencies of_currencies.
@@ -214,14 +226,22 @@ module _ (r : Reading) (kept : IsRead r) where
       (record { of_processors = old.of_processors; of_quantum = old.of_quantum; of_tickets = of_tickets; of_currencies = of_currencies; of_threads = of_threads; of_unit = old.of_unit; time = old.time }))))
   header-kept header.Without (mechanism ∷ []) = compensates (bytes_eq mechanism (codes "compensation"))
     where
-      lends : (named : Bool) → Reads (if named then checked ((not r.is_timed, BadLine) ∷ (r.options.without_lending, BadHeader) ∷ []) (record r { options = record r.options { without_lending = true } }) else Err BadLine) IsRead
-      lends true = if-passes IsRead ((not r.is_timed, BadLine) ∷ (r.options.without_lending, BadHeader) ∷ []) (record r { options = record r.options { without_lending = true } }) (λ _. kept)
+      lends : (named : Bool)
+          → Reads (if named then checked ((not r.is_timed, BadLine) ∷ (r.options.without_lending, BadHeader) ∷ [])
+          (record r { options = record r.options { without_lending = true } }) else Err BadLine) IsRead
+      lends true = if-passes IsRead ((not r.is_timed, BadLine) ∷ (r.options.without_lending, BadHeader) ∷ [])
+          (record r { options = record r.options { without_lending = true } }) (λ _. kept)
       lends false = refuses IsRead BadLine
 
-      compensates : (named : Bool) → Reads (if named then checked ((not r.is_timed, BadLine) ∷ (r.options.without_compensation, BadHeader) ∷ []) (record r { options = record r.options { without_compensation = true } })
-          else if bytes_eq mechanism (codes "lending") then checked ((not r.is_timed, BadLine) ∷ (r.options.without_lending, BadHeader) ∷ []) (record r { options = record r.options { without_lending = true } })
+      compensates : (named : Bool)
+          → Reads (if named then checked ((not r.is_timed, BadLine) ∷ (r.options.without_compensation, BadHeader) ∷ [])
+          (record r { options = record r.options { without_compensation = true } })
+          else if bytes_eq mechanism (codes "lending")
+          then checked ((not r.is_timed, BadLine) ∷ (r.options.without_lending, BadHeader) ∷ [])
+          (record r { options = record r.options { without_lending = true } })
           else Err BadLine) IsRead
-      compensates true = if-passes IsRead ((not r.is_timed, BadLine) ∷ (r.options.without_compensation, BadHeader) ∷ []) (record r { options = record r.options { without_compensation = true } }) (λ _. kept)
+      compensates true = if-passes IsRead ((not r.is_timed, BadLine) ∷ (r.options.without_compensation, BadHeader) ∷ [])
+          (record r { options = record r.options { without_compensation = true } }) (λ _. kept)
       compensates false = lends (bytes_eq mechanism (codes "lending"))
   header-kept word tokens = option-kept tokens (options_with r.options word)
 
@@ -229,7 +249,8 @@ module _ (r : Reading) (kept : IsRead r) where
   header-ordered : (word : HeaderWord) (tokens : List (List ℕ)) → Reads (header_in_order r word tokens) IsRead
   header-ordered word tokens = at (is_late r word)
     where
-      at : (late : Bool) → Reads (checked ((late, BadHeader) ∷ []) r >>= λ before. header_line before word tokens >>= λ after. Ok (with_header_word after word)) IsRead
+      at : (late : Bool) → Reads (checked ((late, BadHeader) ∷ []) r >>= λ before.
+          header_line before word tokens >>= λ after. Ok (with_header_word after word)) IsRead
       at true = refuses IsRead BadHeader
       at false = then-read IsRead IsRead (header-kept word tokens) (λ after is. reads IsRead _ is)
 
@@ -237,8 +258,10 @@ module _ (r : Reading) (kept : IsRead r) where
 
   module _ (s : OpenScript) (room : length r.scripts < 256) where
     -- a script that isn't closed yet goes on
-    script-goes_on : (next : OpenScript) (checks : List (Bool × InputRefusal)) → Reads (checked checks (record r { unclosed = Some next })) IsRead
-    script-goes_on next checks = if-passes IsRead checks (record r { unclosed = Some next }) (λ _. (kept.0, kept.1, kept.2, (kept.3.0, room), kept.4))
+    script-goes_on : (next : OpenScript) (checks : List (Bool × InputRefusal))
+        → Reads (checked checks (record r { unclosed = Some next })) IsRead
+    script-goes_on next checks = if-passes IsRead checks (record r { unclosed = Some next })
+        (λ _. (kept.0, kept.1, kept.2, (kept.3.0, room), kept.4))
 
     -- by a line
     line-kept : (l : ScriptLine) → Reads (add_line r s l) IsRead
@@ -250,12 +273,16 @@ module _ (r : Reading) (kept : IsRead r) where
     script-kept script.Set (n ∷ []) = any-read _ IsRead (λ number. line-kept (line.Set number))
     script-kept script.Add (n ∷ []) = any-read _ IsRead (λ number. line-kept (line.Add number))
     script-kept script.Loop (n ∷ []) =
-        any-read _ IsRead (λ times. script-goes_on (record (with_line s (line.Loop times)) { loops = s.loops + 1 }) ((nat_le 8 s.loops, TooDeep) ∷ (is_full s, TooLong) ∷ []))
-    script-kept script.End [] = script-goes_on (record (with_line s line.End) { loops = s.loops - 1 }) ((s.loops == 0, BadLine) ∷ (is_full s, TooLong) ∷ [])
-    script-kept (script.Trap kind) tokens = any-read _ IsRead (λ number. line-kept (line.Trap (with_numbers kind number tt tt number)))
+        any-read _ IsRead (λ times. script-goes_on (record (with_line s (line.Loop times)) { loops = s.loops + 1 })
+        ((nat_le 8 s.loops, TooDeep) ∷ (is_full s, TooLong) ∷ []))
+    script-kept script.End [] = script-goes_on (record (with_line s line.End) { loops = s.loops - 1 })
+        ((s.loops == 0, BadLine) ∷ (is_full s, TooLong) ∷ [])
+    script-kept (script.Trap kind) tokens =
+        any-read _ IsRead (λ number. line-kept (line.Trap (with_numbers kind number tt tt number)))
     script-kept script.EndScript [] =
         let closed = record { name = s.name; lines = s.lines } ∷ [] in
-        if-passes IsRead ((nat_lt 0 s.loops, BadLine) ∷ []) (record r { unclosed = None; scripts = r.scripts ++ closed })
+        if-passes IsRead ((nat_lt 0 s.loops, BadLine) ∷ [])
+        (record r { unclosed = None; scripts = r.scripts ++ closed })
         (λ _. (kept.0, kept.1, kept.2, (omega (arith, room, length-append r.scripts closed), tt), kept.4))
     script-kept word tokens = refuses IsRead BadLine
 
@@ -270,11 +297,14 @@ module _ (r : Reading) (kept : IsRead r) where
   named-kept : (token : List ℕ) (c : Command) → HasShortName c → Reads (add_named r token c) IsRead
   named-kept token c short =
       then-read IsRead IsRead
-      (any-read (new_name r.ticket_names token) IsRead (λ name. if-passes IsRead ((nat_le 4096 (length r.ticket_names), TooLong) ∷ []) (record r { ticket_names = r.ticket_names ++ name ∷ [] }) (λ _. kept)))
+      (any-read (new_name r.ticket_names token) IsRead
+      (λ name. if-passes IsRead ((nat_le 4096 (length r.ticket_names), TooLong) ∷ [])
+      (record r { ticket_names = r.ticket_names ++ name ∷ [] }) (λ _. kept)))
       (λ named is. naming-kept named is (Some (length named.ticket_names)) c short)
 
   -- a command, if it is one
-  made-kept : (name : Option (List ℕ)) (values : List Value) (made : Option Command) → IfSome made HasShortName → Reads (add_made r name values made) IsRead
+  made-kept : (name : Option (List ℕ)) (values : List Value) (made : Option Command) → IfSome made HasShortName
+      → Reads (add_made r name values made) IsRead
   made-kept name values None short = refuses IsRead BadLine
   made-kept None values (Some c) short = naming-kept r kept (name_in values) c short
   made-kept (Some token) values (Some c) short = named-kept token c short
@@ -287,7 +317,8 @@ module _ (r : Reading) (kept : IsRead r) where
       known None = refuses (IsGiven slot.Ticket) UnknownName
       known (Some name) = reads (IsGiven slot.Ticket) (value.NamedTicket name) (0, refl)
 
-      named : (good : Bool) → Reads (if good then named_ticket (number_named r.ticket_names token) else Err BadNumber) (IsGiven slot.Ticket)
+      named : (good : Bool) → Reads (if good then named_ticket (number_named r.ticket_names token) else Err BadNumber)
+          (IsGiven slot.Ticket)
       named true = known (number_named r.ticket_names token)
       named false = refuses (IsGiven slot.Ticket) BadNumber
 
@@ -297,51 +328,68 @@ module _ (r : Reading) (kept : IsRead r) where
 
   -- an argument of a command
   value-given : (kind : Slot) (token : List ℕ) → Reads (value_from r kind token) (IsGiven kind)
-  value-given slot.Amount token = any-read (any_number token) (IsGiven slot.Amount) (λ amount. reads (IsGiven slot.Amount) (value.Amount amount) (amount, refl))
+  value-given slot.Amount token = any-read (any_number token) (IsGiven slot.Amount)
+      (λ amount. reads (IsGiven slot.Amount) (value.Amount amount) (amount, refl))
   value-given slot.Ticket token = ticket-given token
-  value-given slot.Currency token = any-read (any_name token) (IsGiven slot.Currency) (λ name. reads (IsGiven slot.Currency) (value.Currency (currency_ref.Named name)) (currency_ref.Named name, refl))
-  value-given slot.Target token = any-read (any_name token) (IsGiven slot.Target) (λ name. reads (IsGiven slot.Target) (value.Target (target_ref.Named name)) (target_ref.Named name, refl))
-  value-given slot.Thread token = any-read (any_name token) (IsGiven slot.Thread) (λ name. reads (IsGiven slot.Thread) (value.Thread (thread_ref.Named name)) (thread_ref.Named name, refl))
-  value-given slot.Name token = then-read IsShortName (IsGiven slot.Name) (name-short token) (λ name short. reads (IsGiven slot.Name) (value.Name name) ((name, short), refl))
-  value-given slot.Script token = any-read (script_number (script_names r) token) (IsGiven slot.Script) (λ number. reads (IsGiven slot.Script) (value.Script number) (number, refl))
+  value-given slot.Currency token = any-read (any_name token) (IsGiven slot.Currency)
+      (λ name. reads (IsGiven slot.Currency) (value.Currency (currency_ref.Named name)) (currency_ref.Named name, refl))
+  value-given slot.Target token = any-read (any_name token) (IsGiven slot.Target)
+      (λ name. reads (IsGiven slot.Target) (value.Target (target_ref.Named name)) (target_ref.Named name, refl))
+  value-given slot.Thread token = any-read (any_name token) (IsGiven slot.Thread)
+      (λ name. reads (IsGiven slot.Thread) (value.Thread (thread_ref.Named name)) (thread_ref.Named name, refl))
+  value-given slot.Name token = then-read IsShortName (IsGiven slot.Name) (name-short token)
+      (λ name short. reads (IsGiven slot.Name) (value.Name name) ((name, short), refl))
+  value-given slot.Script token = any-read (script_number (script_names r) token) (IsGiven slot.Script)
+      (λ number. reads (IsGiven slot.Script) (value.Script number) (number, refl))
 
   -- its arguments
   values-given : (kinds : List Slot) (tokens : List (List ℕ)) → Reads (values_from r kinds tokens) (AreGiven kinds)
   values-given [] tokens = reads (AreGiven []) [] (tt, refl)
   values-given (kind ∷ kinds) [] = refuses (AreGiven (kind ∷ kinds)) BadLine
   values-given (kind ∷ kinds) (token ∷ tokens) =
-      then-read (IsGiven kind) (AreGiven (kind ∷ kinds)) (value-given kind token) (λ first (x, is). then-read (AreGiven kinds) (AreGiven (kind ∷ kinds)) (values-given kinds tokens) (λ others (xs, are).
-      reads (AreGiven (kind ∷ kinds)) (first ∷ others) ((x, xs), ap (λ w. w ∷ map (numbered 0) others) is ∙ ap (λ ws. as_value kind x ∷ ws) are)))
+      then-read (IsGiven kind) (AreGiven (kind ∷ kinds)) (value-given kind token) (λ first (x, is).
+      then-read (AreGiven kinds) (AreGiven (kind ∷ kinds)) (values-given kinds tokens) (λ others (xs, are).
+      reads (AreGiven (kind ∷ kinds)) (first ∷ others)
+      ((x, xs), ap (λ w. w ∷ map (numbered 0) others) is ∙ ap (λ ws. as_value kind x ∷ ws) are)))
 
   -- a line of a command
   command-kept : (v : Verb) (tokens : List (List ℕ)) → Reads (command_line r v tokens) IsRead
   command-kept v tokens =
-      any-read (checked ((nat_lt (length tokens) (length (form v)), BadLine) ∷ []) tokens) IsRead (λ given. any-read (name_at_end r v (drop (length (form v)) given)) IsRead (λ name.
+      any-read (checked ((nat_lt (length tokens) (length (form v)), BadLine) ∷ []) tokens) IsRead
+      (λ given. any-read (name_at_end r v (drop (length (form v)) given)) IsRead (λ name.
       then-read (AreGiven (form v)) IsRead (values-given (form v) given) (λ values (arguments, are).
-      made-kept name values (command_from v (map (numbered 0) values)) (subst (λ ws. IfSome (command_from v ws) HasShortName) (sym are) (command-short v arguments)))))
+      made-kept name values (command_from v (map (numbered 0) values))
+      (subst (λ ws. IfSome (command_from v ws) HasShortName) (sym are) (command-short v arguments)))))
 
   -- a schedule that goes on by runs
   runs-kept : (runs : List ActorRun) → Reads (add_runs r runs) IsRead
-  runs-kept runs = any-read _ IsRead (λ fitting. reads IsRead (record r { schedule = r.schedule ++ actors_of fitting }) kept)
+  runs-kept runs =
+      any-read _ IsRead (λ fitting. reads IsRead (record r { schedule = r.schedule ++ actors_of fitting }) kept)
 
   -- a line of the body
   body-kept : (n : ℕ) (word : BodyWord) (tokens : List (List ℕ)) → Reads (body_line n r word tokens) IsRead
   body-kept n body.Port (token ∷ []) =
-      any-read _ IsRead (λ name. if-passes IsRead ((nat_le 256 (length r.ports), TooLong) ∷ []) (record r { ports = r.ports ++ name ∷ [] }) (λ passes.
+      any-read _ IsRead (λ name. if-passes IsRead ((nat_le 256 (length r.ports), TooLong) ∷ [])
+      (record r { ports = r.ports ++ name ∷ [] }) (λ passes.
       (kept.0, omega (arith, room-for (length r.ports) passes, length-append r.ports (name ∷ [])), kept.2, kept.3, kept.4)))
   body-kept n body.Mutex (token ∷ []) =
-      any-read _ IsRead (λ name. if-passes IsRead ((nat_le 256 (length r.mutexes), TooLong) ∷ []) (record r { mutexes = r.mutexes ++ name ∷ [] }) (λ passes.
+      any-read _ IsRead (λ name. if-passes IsRead ((nat_le 256 (length r.mutexes), TooLong) ∷ [])
+      (record r { mutexes = r.mutexes ++ name ∷ [] }) (λ passes.
       (kept.0, kept.1, omega (arith, room-for (length r.mutexes) passes, length-append r.mutexes (name ∷ [])), kept.3, kept.4)))
   body-kept n body.Script (token ∷ []) =
-      any-read _ IsRead (λ name. if-passes IsRead ((nat_le 256 (length r.scripts), TooLong) ∷ []) (record r { unclosed = Some (record { name = name; begins = n; lines = []; loops = 0 }) }) (λ passes.
+      any-read _ IsRead (λ name. if-passes IsRead ((nat_le 256 (length r.scripts), TooLong) ∷ [])
+      (record r { unclosed = Some (record { name = name; begins = n; lines = []; loops = 0 }) }) (λ passes.
       (kept.0, kept.1, kept.2, (kept.3.0, room-for (length r.scripts) passes), kept.4)))
   body-kept n (body.Command v) tokens = command-kept v tokens
   body-kept n body.At (t ∷ []) = any-read _ IsRead (λ time. reads IsRead (record r { time = time }) kept)
   body-kept n body.Schedule (first ∷ others) =
-      any-read (checked ((r.is_timed, BadLine) ∷ []) (first ∷ others)) IsRead (λ tokens. any-read (each (actor_below r.processors) tokens) IsRead (λ actors.
-      if-passes IsRead ((nat_lt 1000000 (length r.schedule + length actors), TooLong) ∷ []) (record r { schedule = r.schedule ++ actors }) (λ _. kept)))
+      any-read (checked ((r.is_timed, BadLine) ∷ []) (first ∷ others)) IsRead
+      (λ tokens. any-read (each (actor_below r.processors) tokens) IsRead (λ actors.
+      if-passes IsRead ((nat_lt 1000000 (length r.schedule + length actors), TooLong) ∷ [])
+      (record r { schedule = r.schedule ++ actors }) (λ _. kept)))
   body-kept n body.Runs (first ∷ others) =
-      any-read (checked ((r.unit == 1 || r.is_timed, BadLine) ∷ (length (first ∷ others) % 2 == 1, BadLine) ∷ []) (first ∷ others)) IsRead (λ tokens.
+      any-read (checked ((r.unit == 1 || r.is_timed, BadLine) ∷ (length (first ∷ others) % 2 == 1, BadLine) ∷ [])
+      (first ∷ others)) IsRead (λ tokens.
       any-read (each_pair (run_of r.processors) tokens) IsRead (λ runs. runs-kept runs))
   body-kept n word tokens = refuses IsRead BadLine
 
@@ -350,11 +398,13 @@ module _ (r : Reading) (kept : IsRead r) where
   after-header n word tokens = then-read IsRead IsRead (body-kept n word tokens) (λ after is. reads IsRead _ is)
 
   -- a line outside scripts
-  outside-kept : (n : ℕ) (word : Option HeaderWord) (other : Option BodyWord) (tokens : List (List ℕ)) → Reads (line_outside n r word other tokens) IsRead
+  outside-kept : (n : ℕ) (word : Option HeaderWord) (other : Option BodyWord) (tokens : List (List ℕ))
+      → Reads (line_outside n r word other tokens) IsRead
   outside-kept n (Some word) other tokens = header-ordered word tokens
   outside-kept n None (Some word) tokens = at (lacks_duration r)
     where
-      at : (lacks : Bool) → Reads (checked ((lacks, BadHeader) ∷ []) r >>= λ before. body_after_header n before word tokens) IsRead
+      at : (lacks : Bool)
+          → Reads (checked ((lacks, BadHeader) ∷ []) r >>= λ before. body_after_header n before word tokens) IsRead
       at true = refuses IsRead BadHeader
       at false = after-header n word tokens
   outside-kept n None None tokens = refuses IsRead BadLine
@@ -372,14 +422,18 @@ phrase-kept r kept phrase = at r.unclosed kept.3.1
 -- the words of such a line, from left to right
 phrases-kept : (r : Reading) → IsRead r → (phrases : List Phrase) → Reads (phrases_inside r phrases) IsRead
 phrases-kept r kept [] = reads IsRead r kept
-phrases-kept r kept (phrase ∷ phrases) = then-read IsRead IsRead (phrase-kept r kept phrase) (λ after is. phrases-kept after is phrases)
+phrases-kept r kept (phrase ∷ phrases) =
+    then-read IsRead IsRead (phrase-kept r kept phrase) (λ after is. phrases-kept after is phrases)
 
 -- a line after the first
-later-kept : (n : ℕ) (r : Reading) → IsRead r → (o : Option OpenScript) → IfSome o (λ _. length r.scripts < 256) → (word : List ℕ) (tokens : List (List ℕ)) → Reads (later_line n r o word tokens) IsRead
-later-kept n r kept None room word tokens = outside-kept r kept n (word_in (header_words_of r) word) (word_in (body_words_of r) word) tokens
+later-kept : (n : ℕ) (r : Reading) → IsRead r → (o : Option OpenScript) → IfSome o (λ _. length r.scripts < 256)
+    → (word : List ℕ) (tokens : List (List ℕ)) → Reads (later_line n r o word tokens) IsRead
+later-kept n r kept None room word tokens =
+    outside-kept r kept n (word_in (header_words_of r) word) (word_in (body_words_of r) word) tokens
 later-kept n r kept (Some s) room word tokens = at r.is_timed
   where
-    at : (b : Bool) → Reads (cond b (phrases_inside r (phrases_of (word ∷ tokens))) (line_inside r s (word_in script_words word) tokens)) IsRead
+    at : (b : Bool) → Reads (cond b (phrases_inside r (phrases_of (word ∷ tokens)))
+        (line_inside r s (word_in script_words word) tokens)) IsRead
     at true = phrases-kept r kept (phrases_of (word ∷ tokens))
     at false = inside-kept r kept s room (word_in script_words word) tokens
 
@@ -388,9 +442,11 @@ first-kept : (tokens : List (List ℕ)) → Reads (first_line tokens) IsRead
 first-kept [] = refuses IsRead BadHeader
 first-kept (word ∷ []) = refuses IsRead BadHeader
 first-kept (word ∷ version ∷ []) =
-    at (bytes_eq word (codes "lottery") && bytes_eq version (codes "1")) (bytes_eq word (codes "lottery") && bytes_eq version (codes "2")) (bytes_eq word (codes "lottery") && bytes_eq version (codes "3"))
+    at (bytes_eq word (codes "lottery") && bytes_eq version (codes "1")) (bytes_eq word
+    (codes "lottery") && bytes_eq version (codes "2")) (bytes_eq word (codes "lottery") && bytes_eq version (codes "3"))
   where
-    at : (a b c : Bool) → Reads (cond a (Ok (opening_reading false 1)) (cond b (Ok (opening_reading false 256)) (cond c (Ok (opening_reading true 256)) (Err BadHeader)))) IsRead
+    at : (a b c : Bool) → Reads (cond a (Ok (opening_reading false 1))
+        (cond b (Ok (opening_reading false 256)) (cond c (Ok (opening_reading true 256)) (Err BadHeader)))) IsRead
     at true b c = reads IsRead (opening_reading false 1) (opening-read false 1 refl)
     at false true c = reads IsRead (opening_reading false 256) (opening-read false 256 refl)
     at false false true = reads IsRead (opening_reading true 256) (opening-read true 256 refl)
@@ -398,7 +454,8 @@ first-kept (word ∷ version ∷ []) =
 first-kept (word ∷ version ∷ more ∷ others) = refuses IsRead BadHeader
 
 -- a line that isn't ignored
-token-kept : (n : ℕ) (reading : Option Reading) → IfSome reading IsRead → (tokens : List (List ℕ)) → Reads (token_line n reading tokens) IsRead
+token-kept : (n : ℕ) (reading : Option Reading) → IfSome reading IsRead → (tokens : List (List ℕ))
+    → Reads (token_line n reading tokens) IsRead
 token-kept n None is tokens = first-kept tokens
 token-kept n (Some r) kept [] = reads IsRead r kept
 token-kept n (Some r) kept (word ∷ tokens) = later-kept n r kept r.unclosed kept.3.1 word tokens
@@ -408,27 +465,34 @@ abbrev IsReadSoFar : Option Reading → Type 0
 IsReadSoFar reading = IfSome reading IsRead
 
 -- a line, ignored or not
-fitting-kept : (n : ℕ) (reading : Option Reading) (s : Separators) (line : List ℕ) (is_skipped : Bool) → IsReadSoFar reading → Reads (fitting_line n reading s line is_skipped) IsReadSoFar
+fitting-kept : (n : ℕ) (reading : Option Reading) (s : Separators) (line : List ℕ) (is_skipped : Bool)
+    → IsReadSoFar reading → Reads (fitting_line n reading s line is_skipped) IsReadSoFar
 fitting-kept n reading s line true is = reads IsReadSoFar reading is
-fitting-kept n reading s line false is = any-read _ IsReadSoFar (λ whole. then-read IsRead IsReadSoFar (token-kept n reading is (tokens_of s whole)) (λ after so_far. reads IsReadSoFar (Some after) so_far))
+fitting-kept n reading s line false is = any-read _ IsReadSoFar (λ whole. then-read IsRead IsReadSoFar
+    (token-kept n reading is (tokens_of s whole)) (λ after so_far. reads IsReadSoFar (Some after) so_far))
 
 -- a line that may be too long
-line-read : (n end : ℕ) (reading : Option Reading) (line : List ℕ) → IsReadSoFar reading → Reads (read_line n end reading line) IsReadSoFar
+line-read : (n end : ℕ) (reading : Option Reading) (line : List ℕ) → IsReadSoFar reading
+    → Reads (read_line n end reading line) IsReadSoFar
 line-read n end reading line is =
     let checks = (nat_lt 4096 (length line) || nat_lt 16777216 end, TooLong) ∷ [] in
-    any-read (checked checks line) IsReadSoFar (λ whole. fitting-kept n reading (separators_of reading whole) whole (is_ignored (tokens_of (separators_of reading whole) whole)) is)
+    any-read (checked checks line) IsReadSoFar (λ whole. fitting-kept n reading (separators_of reading whole) whole
+    (is_ignored (tokens_of (separators_of reading whole) whole)) is)
 
 -- what is refused is refused on a line
-refused-kept : {A : Type 0} (P : A → Type 0) (n : ℕ) (read : Result A InputRefusal) → Reads read P → Reads (refused_on n read) P
+refused-kept : {A : Type 0} (P : A → Type 0) (n : ℕ) (read : Result A InputRefusal) → Reads read P
+    → Reads (refused_on n read) P
 refused-kept P n (Ok x) is = reads P x is.holds
 refused-kept P n (Err refusal) is = refuses P (record { line = n; refusal = refusal })
 
 -- all lines
-lines-read : (n start : ℕ) (reading : Option Reading) (lines : List (List ℕ)) → IsReadSoFar reading → Reads (read_lines n start reading lines) IsReadSoFar
+lines-read : (n start : ℕ) (reading : Option Reading) (lines : List (List ℕ)) → IsReadSoFar reading
+    → Reads (read_lines n start reading lines) IsReadSoFar
 lines-read n start reading [] is = reads IsReadSoFar reading is
 lines-read n start reading (line ∷ lines) is =
     let read = read_line n (start + length line) reading (without_end line) in
-    then-read IsReadSoFar IsReadSoFar (refused-kept IsReadSoFar n read (line-read n (start + length line) reading (without_end line) is))
+    then-read IsReadSoFar IsReadSoFar
+    (refused-kept IsReadSoFar n read (line-read n (start + length line) reading (without_end line) is))
     (λ after so_far. lines-read (n + 1) (start + length line) after lines so_far)
 
 -- ---- a whole input
@@ -458,11 +522,13 @@ program-of r kept = record {
 }
 
 -- what was read of a whole input
-whole-read : (count : ℕ) (reading : Option Reading) → IsReadSoFar reading → Reads (whole_program count reading) IsReadProgram
+whole-read : (count : ℕ) (reading : Option Reading) → IsReadSoFar reading
+    → Reads (whole_program count reading) IsReadProgram
 whole-read count None is = refuses IsReadProgram (record { line = max 1 count; refusal = BadHeader })
 whole-read count (Some r) kept = at (lacks_duration r) r.unclosed
   where
-    at : (lacks : Bool) (o : Option OpenScript) → Reads (cond lacks (Err (record { line = max 1 count; refusal = BadHeader })) (closed_program r o)) IsReadProgram
+    at : (lacks : Bool) (o : Option OpenScript) → Reads
+        (cond lacks (Err (record { line = max 1 count; refusal = BadHeader })) (closed_program r o)) IsReadProgram
     at true o = refuses IsReadProgram (record { line = max 1 count; refusal = BadHeader })
     at false None = reads IsReadProgram (program_of r) (program-of r kept)
     at false (Some s) = refuses IsReadProgram (record { line = s.begins; refusal = ScriptIsOpen })
@@ -470,5 +536,6 @@ whole-read count (Some r) kept = at (lacks_duration r) r.unclosed
 -- every program that is read
 pub program-read : (bytes : List ℕ) (program : Program) → program_in bytes ≡ Ok program → IsReadProgram program
 program-read bytes program is =
-    let read : Reads (program_in bytes) IsReadProgram = then-read IsReadSoFar IsReadProgram (lines-read 1 0 None (lines_of bytes) tt) (whole-read (length (lines_of bytes))) in
+    let read : Reads (program_in bytes) IsReadProgram = then-read IsReadSoFar IsReadProgram
+    (lines-read 1 0 None (lines_of bytes) tt) (whole-read (length (lines_of bytes))) in
     subst (λ result. IfOk result IsReadProgram) is read.holds

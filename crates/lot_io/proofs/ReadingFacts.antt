@@ -5,7 +5,8 @@ use Rattle.std.proofs.lemmas.List.{length-take}
 use Rattle.lot_io.specs.Reading.{HasTaken}
 
 -- what was read after what was read
-pub consumes-both : (old mid new : Option (List ℕ)) (a b : List ℕ) → Consumes old mid a → Consumes mid new b → Consumes old new (a ++ b)
+pub consumes-both : (old mid new : Option (List ℕ)) (a b : List ℕ) → Consumes old mid a → Consumes mid new b
+    → Consumes old new (a ++ b)
 consumes-both None mid new a b one two = tt
 consumes-both (Some xs) None new a b one two = absurd one
 consumes-both (Some xs) (Some ys) None a b one two = absurd two
@@ -17,9 +18,11 @@ consumes-none None = tt
 consumes-none (Some xs) = refl
 
 -- what was taken and what was read before
-module _ (first left rest : Option (List ℕ)) (old now : List ℕ) (count : ℕ) (took : HasTaken left rest old now count) where
+module _ (first left rest : Option (List ℕ)) (old now : List ℕ) (count : ℕ)
+    (took : HasTaken left rest old now count) where
   pub consumes-more : Consumes first left old → Consumes first rest now
-  consumes-more one = subst (Consumes first rest) (sym took.kept) (consumes-both first left rest old took.taken one took.consumed)
+  consumes-more one =
+      subst (Consumes first rest) (sym took.kept) (consumes-both first left rest old took.taken one took.consumed)
 
   pub length-more : length now ≡ length old + count
   length-more = ap length took.kept ∙ length-append old took.taken ∙ ap (λ n. length old + n) took.count_is

@@ -15,18 +15,26 @@ not-below : (a b : ℕ) → nat_lt a b ≡ false → b ≤ a
 not-below a b is = grind (arith, nat_tests)
 
 -- the place of a table has what was read there
-pub entry-of : {A : Type 0} (xs ys : List (Option A)) (n : ℕ) (x o : Option A) → xs ≡ ys → true ≡ nat_lt n (length xs) → x ≡ get_or xs n x → x ≡ o → slice_get ys n ≡ Some o
-entry-of xs ys n x o same low read is = subst (λ zs. slice_get zs n ≡ Some o) same (looked-up xs n x (ltb-true n (length xs) (sym low)) read ∙ ap Some is)
+pub entry-of : {A : Type 0} (xs ys : List (Option A)) (n : ℕ) (x o : Option A) → xs ≡ ys → true ≡ nat_lt n (length xs)
+    → x ≡ get_or xs n x → x ≡ o → slice_get ys n ≡ Some o
+entry-of xs ys n x o same low read is =
+    subst (λ zs. slice_get zs n ≡ Some o) same (looked-up xs n x (ltb-true n (length xs) (sym low)) read ∙ ap Some is)
 
-pub entry-missing : {A : Type 0} (xs ys : List (Option A)) (n : ℕ) → xs ≡ ys → false ≡ nat_lt n (length xs) → slice_get ys n ≡ None
-entry-missing xs ys n same high = subst (λ zs. slice_get zs n ≡ None) same (missed xs n (not-below n (length xs) (sym high)))
+pub entry-missing : {A : Type 0} (xs ys : List (Option A)) (n : ℕ) → xs ≡ ys → false ≡ nat_lt n (length xs)
+    → slice_get ys n ≡ None
+entry-missing xs ys n same high =
+    subst (λ zs. slice_get zs n ≡ None) same (missed xs n (not-below n (length xs) (sym high)))
 
 -- the number counts from 1
-pub numbered : {A : Type 0} (xs : List A) (t i : ℕ) (o : Option A) → (t ≡ 0 → ⊥) → i ≡ t - 1 → slice_get xs i ≡ o → at_number xs t ≡ o
+pub numbered : {A : Type 0} (xs : List A) (t i : ℕ) (o : Option A) → (t ≡ 0 → ⊥) → i ≡ t - 1 → slice_get xs i ≡ o
+    → at_number xs t ≡ o
 numbered xs zero i o some index is = absurd (some refl)
-numbered xs (suc k) i o some index is = let same : k ≡ i = omega (arith, index) in at_number-suc xs k ∙ ap (slice_get xs) same ∙ is
+numbered xs (suc k) i o some index is = let same : k ≡ i = omega (arith, index) in at_number-suc xs k
+    ∙ ap (slice_get xs) same ∙ is
 
 -- the place of what has a number
-pub number-place : {A : Type 0} (xs : List A) (t i : ℕ) (x : A) → at_number xs t ≡ Some x → i ≡ t - 1 → (t ≡ suc i) × (slice_get xs i ≡ Some x)
+pub number-place : {A : Type 0} (xs : List A) (t i : ℕ) (x : A) → at_number xs t ≡ Some x → i ≡ t - 1
+    → (t ≡ suc i) × (slice_get xs i ≡ Some x)
 number-place xs zero i x at index = cc
-number-place xs (suc k) i x at index = let same : k ≡ i = omega (arith, index) in (ap suc same, ap (slice_get xs) (sym same) ∙ sym (at_number-suc xs k) ∙ at)
+number-place xs (suc k) i x at index = let same : k ≡ i = omega (arith, index) in
+    (ap suc same, ap (slice_get xs) (sym same) ∙ sym (at_number-suc xs k) ∙ at)

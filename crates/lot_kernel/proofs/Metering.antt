@@ -4,8 +4,10 @@ use Rattle.lot_machine.specs.declared.funding.Node.TheVariants.{Thread}
 use Rattle.lot_machine.specs.declared.reply.Outcome.TheVariants as outcome
 
 -- two parts count nothing
-nothing-twice : (old mid new : Snapshot) → CountsNothing old mid → KeepsStale mid new → new.meter ≡ mid.meter → CountsNothing old new
-nothing-twice old mid new first kept meter = record { kept = λ x is. kept x (first.kept x is); meter = meter ∙ first.meter }
+nothing-twice : (old mid new : Snapshot) → CountsNothing old mid → KeepsStale mid new → new.meter ≡ mid.meter
+    → CountsNothing old new
+nothing-twice old mid new first kept meter =
+    record { kept = λ x is. kept x (first.kept x is); meter = meter ∙ first.meter }
 
 module _ (old mid new : Snapshot) (kept : KeepsStale mid new) (meter : new.meter ≡ mid.meter) where
   -- what follows a trap counts nothing
@@ -22,11 +24,17 @@ somebody : (waiters : List ℕ) (w : ℕ) (ws : List ℕ) → waiters ≡ w ∷ 
 somebody waiters w ws some none = let no = sym some ∙ none in cc
 
 -- an unlock that passes its mutex on counts what it settles, and one that frees it nothing
-pub unlock-counts : (records : List Record) (mutexes : List Mutex) (value : ℕ → ℕ) (m d : ℕ) (old new : Snapshot) (o : Outcome) → o ≡ (unlock records mutexes value m d).outcome → ((mutex_at mutexes m).waiters ≡ [] → KeepsStale old new)
-    → ((mutex_at mutexes m).waiters ≡ [] → new.meter ≡ old.meter) → ((mutex_at mutexes m).waiters ≢ [] → new.meter ≡ settled_meter old) → ((mutex_at mutexes m).waiters ≢ [] → HasNoneTwice old.stale)
-    → (owner : ℕ) → (mutex_at old.state.mutexes m).owner ≡ Some owner → ((to : ℕ) (draw : Option (ℕ × ℕ)) → o ≡ outcome.Passed to draw → Contains new.stale (Thread owner) × Contains new.stale (Thread to))
+pub unlock-counts : (records : List Record) (mutexes : List Mutex) (value : ℕ → ℕ) (m d : ℕ) (old new : Snapshot)
+    (o : Outcome) → o ≡ (unlock records mutexes value m d).outcome
+    → ((mutex_at mutexes m).waiters ≡ [] → KeepsStale old new)
+    → ((mutex_at mutexes m).waiters ≡ [] → new.meter ≡ old.meter)
+    → ((mutex_at mutexes m).waiters ≢ [] → new.meter ≡ settled_meter old)
+    → ((mutex_at mutexes m).waiters ≢ [] → HasNoneTwice old.stale)
+    → (owner : ℕ) → (mutex_at old.state.mutexes m).owner ≡ Some owner → ((to : ℕ) (draw : Option (ℕ × ℕ))
+    → o ≡ outcome.Passed to draw → Contains new.stale (Thread owner) × Contains new.stale (Thread to))
     → CountsTrap (Unlock m d) o old new
-unlock-counts records mutexes value m d old new o is kept uncounted counted once owner owns stale = by (mutex_at mutexes m).waiters refl
+unlock-counts records mutexes value m d old new o is kept uncounted counted once owner owns stale =
+    by (mutex_at mutexes m).waiters refl
   where
     by : (waiters : List ℕ) → (mutex_at mutexes m).waiters ≡ waiters → CountsTrap (Unlock m d) o old new
     by [] none =

@@ -3,7 +3,8 @@ use Rattle.lot_kernel.proofs.Common.{Freed, HasHolders, List, Mutex, None, Optio
 use Rattle.lot_kernel.proofs.Holding.{IsHeld, snapshot_of}
 use Rattle.lot_kernel.proofs.Serving.{waiters_in}
 
-owners-free : (n : ℕ) → map (λ (m : Mutex). m.owner) (replicate n (record { owner = None; waiters = [] })) ≡ replicate n None
+owners-free : (n : ℕ)
+    → map (λ (m : Mutex). m.owner) (replicate n (record { owner = None; waiters = [] })) ≡ replicate n None
 owners-free zero = refl
 owners-free (suc n) = ap (λ os. None ∷ os) (owners-free n)
 
@@ -31,19 +32,23 @@ module _ (sizes : Sizes) (v : Threaded) where
   pub opens-threads : v ≡ opening_threads sizes → v ≡ threads_of (opening sizes) [] (starting sizes).meter
   opens-threads is = is ∙ ap (λ os. record (opening_threads sizes) { owners = os }) (sym (owners-free (holders sizes)))
 
-  module _ (names : List (Option (List ℕ))) (q : QueueLists) (named : names ≡ Some (codes "base") ∷ []) (is : v ≡ threads_of (opening sizes) [] (starting sizes).meter) (queues : q ≡ empty_queues sizes.ports (holders sizes) sizes.threads) where
+  module _ (names : List (Option (List ℕ))) (q : QueueLists) (named : names ≡ Some (codes "base") ∷ [])
+      (is : v ≡ threads_of (opening sizes) [] (starting sizes).meter)
+      (queues : q ≡ empty_queues sizes.ports (holders sizes) sizes.threads) where
     pub opening-held : (freed : Freed) → IsHeld sizes freed names v q
     opening-held freed =
         subst (λ ns. IsHeld sizes freed ns v q) (sym named)
         (subst (λ (w : Threaded). IsHeld sizes freed (Some (codes "base") ∷ []) w q) (sym is)
-        (subst (λ (l : QueueLists). IsHeld sizes freed (Some (codes "base") ∷ []) (threads_of (opening sizes) [] (starting sizes).meter) l) (sym queues) refl))
+        (subst (λ (l : QueueLists). IsHeld sizes freed (Some (codes "base") ∷ [])
+        (threads_of (opening sizes) [] (starting sizes).meter) l) (sym queues) refl))
 
     -- with no place free they are seen as the snapshot at the start
     pub opening-starts : (freed : Freed) → freed ≡ none_free → snapshot_of sizes freed names q v ≡ starting sizes
     opening-starts freed free =
         ap (λ (f : Freed). snapshot_of sizes f names q v) free ∙ ap (λ ns. snapshot_of sizes none_free ns q v) named
         ∙ ap (λ (l : QueueLists). snapshot_of sizes none_free (Some (codes "base") ∷ []) l v) queues
-        ∙ ap (snapshot_of sizes none_free (Some (codes "base") ∷ []) (empty_queues sizes.ports (holders sizes) sizes.threads)) is
+        ∙ ap (snapshot_of sizes none_free (Some (codes "base") ∷ [])
+        (empty_queues sizes.ports (holders sizes) sizes.threads)) is
 
 -- nobody waits for a holder then
 free-waits : (n k : ℕ) → waiters_in (slice_get (replicate n (record { owner = None; waiters = [] })) k) ≡ []
@@ -51,9 +56,12 @@ free-waits zero k = refl
 free-waits (suc n) zero = refl
 free-waits (suc n) (suc k) = free-waits n k
 
-pub opening-holders : (sizes : Sizes) (q : QueueLists) → q ≡ empty_queues sizes.ports (holders sizes) sizes.threads → HasHolders sizes q
-opening-holders sizes q is = subst (HasHolders sizes) (sym is) (record { ports = length-replicate sizes.ports _; mutexes = length-replicate (holders sizes) _; unwaited = λ m above. by m })
+pub opening-holders : (sizes : Sizes) (q : QueueLists) → q ≡ empty_queues sizes.ports (holders sizes) sizes.threads
+    → HasHolders sizes q
+opening-holders sizes q is = subst (HasHolders sizes) (sym is)
+    (record { ports = length-replicate sizes.ports _; mutexes = length-replicate (holders sizes) _; unwaited = λ m above. by m })
   where
     by : (m : ℕ) → (mutex_at (replicate (holders sizes) (record { owner = None; waiters = [] })) m).waiters ≡ []
     by zero = refl
-    by (suc k) = ap waiters_in (at_number-suc (replicate (holders sizes) (record { owner = None; waiters = [] })) k) ∙ free-waits (holders sizes) k
+    by (suc k) = ap waiters_in (at_number-suc (replicate (holders sizes) (record { owner = None; waiters = [] })) k)
+        ∙ free-waits (holders sizes) k

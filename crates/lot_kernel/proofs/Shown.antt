@@ -3,7 +3,8 @@ use Rattle.lot_kernel.proofs.Common.{Snapshot, ap, the_invariant, the_view, thre
 use Rattle.lot_kernel.specs.declared.kernel.Kernel.TheInside.{Inside}
 use Rattle.lot_kernel.specs.declared.tables.Tables.TheInside.{Inside as TablesInside}
 
-module _ (tables : TablesInside) (kernel : Inside) (shown : Snapshot) (inner : record { tables = the_view tables } ≡ kernel) (outer : kernel.tables ≡ shown) where
+module _ (tables : TablesInside) (kernel : Inside) (shown : Snapshot)
+    (inner : record { tables = the_view tables } ≡ kernel) (outer : kernel.tables ≡ shown) where
   -- a kernel shows what its tables do
   pub tables-shown : the_view tables ≡ shown
   tables-shown = ap (λ (k : Inside). k.tables) inner ∙ outer

@@ -11,7 +11,8 @@ pub pushed-first : (xs : List ℕ) (x : ℕ) → reverse (xs ++ x ∷ []) ≡ x 
 pushed-first xs x = reverse-append xs (x ∷ [])
 
 -- nothing leaves, if there is none
-pub popped-none : (old new : List ℕ) (o : Option ℕ) {P : Type 0} → (reverse new ≡ reverse old → P) → old ≡ new ++ option_to_list o → (o ≡ None → length old ≡ 0) → IfNone o P
+pub popped-none : (old new : List ℕ) (o : Option ℕ) {P : Type 0} → (reverse new ≡ reverse old → P)
+    → old ≡ new ++ option_to_list o → (o ≡ None → length old ≡ 0) → IfNone o P
 popped-none old new None follows is none =
     let empty : old ≡ [] = nothing old (none refl) in
     let left : new ≡ [] = nothing new (omega (arith, ap (length {A = ℕ}) is, none refl, length-append new [])) in
@@ -19,7 +20,8 @@ popped-none old new None follows is none =
 popped-none old new (Some x) follows is none = tt
 
 -- the last item leaves, if there is one
-pub popped : (old new : List ℕ) (o : Option ℕ) → old ≡ new ++ option_to_list o → (o ≡ None → length old ≡ 0) → (o ≡ slice_get (reverse old) 0) × (reverse new ≡ drop 1 (reverse old))
+pub popped : (old new : List ℕ) (o : Option ℕ) → old ≡ new ++ option_to_list o → (o ≡ None → length old ≡ 0)
+    → (o ≡ slice_get (reverse old) 0) × (reverse new ≡ drop 1 (reverse old))
 popped old new None is none =
     let empty : old ≡ [] = nothing old (none refl) in
     let left : new ≡ [] = nothing new (omega (arith, ap (length {A = ℕ}) is, none refl, length-append new [])) in

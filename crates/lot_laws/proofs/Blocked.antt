@@ -19,35 +19,48 @@ lead-other f t v no_cycle nobody differs = by (lends_lead f t v) refl
     by false is = refl
 
 -- who lends to nobody, by its status
-pub lends-nobody : (s : State) (t : ℕ) (status : Status) → status_of s.records t ≡ Some status → lend_of s.limits status ≡ Nobody → borrower_of (funding_of s) t ≡ None
-lends-nobody s t status is free = ap (option_and_then (borrower (funding_of s))) (lend-is s.limits s.records t ∙ ap (option_map (lend_of s.limits)) is ∙ ap Some free)
+pub lends-nobody : (s : State) (t : ℕ) (status : Status) → status_of s.records t ≡ Some status
+    → lend_of s.limits status ≡ Nobody → borrower_of (funding_of s) t ≡ None
+lends-nobody s t status is free = ap (option_and_then (borrower (funding_of s)))
+    (lend-is s.limits s.records t ∙ ap (option_map (lend_of s.limits)) is ∙ ap Some free)
 
-pub is-live : (records : List Record) (t : ℕ) (status : Status) → status_of records t ≡ Some status → is_live_status status ≡ true → IsLive (live_in records) t
+pub is-live : (records : List Record) (t : ℕ) (status : Status) → status_of records t ≡ Some status
+    → is_live_status status ≡ true → IsLive (live_in records) t
 is-live records t status is alive = live-is records t ∙ ap (option_map is_live_status) is ∙ ap Some alive
 
-pub not-live : (records : List Record) (t : ℕ) (status : Status) → status_of records t ≡ Some status → is_live_status status ≡ false → ¬ IsLive (live_in records) t
+pub not-live : (records : List Record) (t : ℕ) (status : Status) → status_of records t ≡ Some status
+    → is_live_status status ≡ false → ¬ IsLive (live_in records) t
 not-live records t status is gone alive =
-    let never : false ≡ true = some-injective false true (sym (ap (option_map is_live_status) is ∙ ap Some gone) ∙ sym (live-is records t) ∙ alive) in cc
+    let never : false ≡ true = some-injective false true
+    (sym (ap (option_map is_live_status) is ∙ ap Some gone) ∙ sym (live-is records t) ∙ alive) in cc
 
 -- with lending a served thread lends to its server
-pub served-lends : (s : State) (server : ℕ) → s.limits.without_lending ≡ false → borrower (funding_of s) (lend_of s.limits (Served server)) ≡ Some server
-served-lends s server lends = ap (λ (without : Bool). borrower (funding_of s) (if without then Nobody else ToThread server)) lends
+pub served-lends : (s : State) (server : ℕ) → s.limits.without_lending ≡ false
+    → borrower (funding_of s) (lend_of s.limits (Served server)) ≡ Some server
+served-lends s server lends =
+    ap (λ (without : Bool). borrower (funding_of s) (if without then Nobody else ToThread server)) lends
 
 -- thread t is live in the one and blocked in the other, where it lends to b, and all others lend as they do
 module _ (s : State) (records : List Record) (t b : ℕ) (from to : Status) (many : length records ≡ length s.records)
-    (was : status_of s.records t ≡ Some from) (free : lend_of s.limits from ≡ Nobody) (alive : is_live_status from ≡ true)
-    (is : status_of records t ≡ Some to) (gone : is_live_status to ≡ false) (lent : borrower (funding_of s) (lend_of s.limits to) ≡ Some b)
-    (same : (u : ℕ) → u ≢ t → option_map (lend_of s.limits) (status_of records u) ≡ option_map (lend_of s.limits) (status_of s.records u))
-    (no_cycle : HasNoCycle (funding_of s)) (there : FundsThere (funding_of s)) (no_cycle_now : HasNoCycle (lending (funding_of s) (lends_in s.limits records))) where
+    (was : status_of s.records t ≡ Some from) (free : lend_of s.limits from ≡ Nobody)
+    (alive : is_live_status from ≡ true)
+    (is : status_of records t ≡ Some to) (gone : is_live_status to ≡ false)
+    (lent : borrower (funding_of s) (lend_of s.limits to) ≡ Some b)
+    (same : (u : ℕ) → u ≢ t
+    → option_map (lend_of s.limits) (status_of records u) ≡ option_map (lend_of s.limits) (status_of s.records u))
+    (no_cycle : HasNoCycle (funding_of s)) (there : FundsThere (funding_of s))
+    (no_cycle_now : HasNoCycle (lending (funding_of s) (lends_in s.limits records))) where
   as-many : length (lends_in s.limits records) ≡ length (funding_of s).lends
-  as-many = length-map records (λ (r : Record). lend_of s.limits r.status) ∙ many ∙ sym (length-map s.records (λ (r : Record). lend_of s.limits r.status))
+  as-many = length-map records (λ (r : Record). lend_of s.limits r.status) ∙ many
+      ∙ sym (length-map s.records (λ (r : Record). lend_of s.limits r.status))
 
   alone : borrower_of (funding_of s) t ≡ None
   alone = lends-nobody s t from was free
 
   lends : borrower_of (lending (funding_of s) (lends_in s.limits records)) t ≡ Some b
   lends =
-      ap (option_and_then (borrower (lending (funding_of s) (lends_in s.limits records)))) (lend-is s.limits records t ∙ ap (option_map (lend_of s.limits)) is)
+      ap (option_and_then (borrower (lending (funding_of s) (lends_in s.limits records))))
+      (lend-is s.limits records t ∙ ap (option_map (lend_of s.limits)) is)
       ∙ same-borrower (funding_of s) (lends_in s.limits records) (Some (lend_of s.limits to)) ∙ lent
 
   others : (u : ℕ) → u ≢ t → at_number (lends_in s.limits records) u ≡ at_number (funding_of s).lends u
@@ -59,45 +72,73 @@ module _ (s : State) (records : List Record) (t b : ℕ) (from to : Status) (man
   ended : ¬ IsLive (live_in records) t
   ended = not-live records t to is gone
 
-  module _ (backed-on : (u : ℕ) → IsBacked (funding_of s) (live_of s) u → IsBacked (lending (funding_of s) (lends_in s.limits records)) (live_in records) u)
-      (backed-back : (u : ℕ) → (backing_thread (funding_of s) u ≡ []) ⊎ (IsBacked (lending (funding_of s) (lends_in s.limits records)) (live_in records) u → IsBacked (funding_of s) (live_of s) u)) where
-    worth-of : (v : ℕ) → thread_value s.limits.unit (lending (funding_of s) (lends_in s.limits records)) (live_in records) v ≡ value_of s v + cond (lends_lead (funding_of s) b v) (value_of s t) 0
-    worth-of = lent-worth (funding_of s) (lends_in s.limits records) t b as-many alone lends others no_cycle no_cycle_now (live_of s) (live_in records) there backed-on backed-back s.limits.unit
+  module _ (backed-on : (u : ℕ) → IsBacked (funding_of s) (live_of s) u
+      → IsBacked (lending (funding_of s) (lends_in s.limits records)) (live_in records) u)
+      (backed-back : (u : ℕ) → (backing_thread (funding_of s) u ≡ []) ⊎ (IsBacked (lending (funding_of s)
+      (lends_in s.limits records)) (live_in records) u → IsBacked (funding_of s) (live_of s) u)) where
+    worth-of : (v : ℕ) → thread_value s.limits.unit (lending (funding_of s) (lends_in s.limits records))
+        (live_in records) v ≡ value_of s v + cond (lends_lead (funding_of s) b v) (value_of s t) 0
+    worth-of = lent-worth (funding_of s) (lends_in s.limits records) t b as-many alone lends others no_cycle
+        no_cycle_now (live_of s) (live_in records) there backed-on backed-back s.limits.unit
 
-    own-of : sum_by (own_value s.limits.unit (lending (funding_of s) (lends_in s.limits records)) (live_in records)) (filter (is_backed (lending (funding_of s) (lends_in s.limits records)) (live_in records)) (numbers records))
-        ≡ sum_by (own_value s.limits.unit (funding_of s) (live_of s)) (filter (is_backed (funding_of s) (live_of s)) (numbers s.records))
+    own-of : sum_by (own_value s.limits.unit (lending (funding_of s) (lends_in s.limits records)) (live_in records))
+        (filter (is_backed (lending (funding_of s) (lends_in s.limits records)) (live_in records)) (numbers records))
+        ≡ sum_by (own_value s.limits.unit (funding_of s) (live_of s))
+        (filter (is_backed (funding_of s) (live_of s)) (numbers s.records))
     own-of =
-        ap (λ n. sum_by (own_value s.limits.unit (lending (funding_of s) (lends_in s.limits records)) (live_in records)) (filter (is_backed (lending (funding_of s) (lends_in s.limits records)) (live_in records)) (range_with_len 1 n))) many
-        ∙ backed-same (funding_of s) (lends_in s.limits records) t b as-many alone lends others no_cycle no_cycle_now (live_of s) (live_in records) there backed-on backed-back s.limits.unit (numbers s.records)
+        ap (λ n.
+        sum_by (own_value s.limits.unit (lending (funding_of s) (lends_in s.limits records)) (live_in records)) (filter
+        (is_backed (lending (funding_of s) (lends_in s.limits records)) (live_in records)) (range_with_len 1 n))) many
+        ∙ backed-same (funding_of s) (lends_in s.limits records) t b as-many alone lends others no_cycle no_cycle_now
+        (live_of s) (live_in records) there backed-on backed-back s.limits.unit (numbers s.records)
 
   -- b wakes, and had nothing of its own
-  module _ (woken : IsLive (live_in records) b) (lives : (u : ℕ) → u ≢ t → u ≢ b → option_map is_live_status (status_of records u) ≡ option_map is_live_status (status_of s.records u)) (owns : OwnsNothing s b) where
+  module _ (woken : IsLive (live_in records) b) (lives : (u : ℕ) → u ≢ t → u ≢ b
+      → option_map is_live_status (status_of records u) ≡ option_map is_live_status (status_of s.records u))
+      (owns : OwnsNothing s b) where
     lives-woken : (u : ℕ) → u ≢ t → u ≢ b → at_number (live_in records) u ≡ at_number (live_of s) u
     lives-woken u first second = live-is records u ∙ lives u first second ∙ sym (live-is s.records u)
 
-    pub woken-worth : (v : ℕ) → thread_value s.limits.unit (lending (funding_of s) (lends_in s.limits records)) (live_in records) v ≡ value_of s v + cond (lends_lead (funding_of s) b v) (value_of s t) 0
+    pub woken-worth : (v : ℕ) → thread_value s.limits.unit (lending (funding_of s) (lends_in s.limits records))
+        (live_in records) v ≡ value_of s v + cond (lends_lead (funding_of s) b v) (value_of s t) 0
     woken-worth =
-        worth-of (woken-on (funding_of s) (lends_in s.limits records) t b as-many alone lends others no_cycle no_cycle_now (live_of s) (live_in records) lived ended woken lives-woken owns.0 owns.1)
-        (woken-back (funding_of s) (lends_in s.limits records) t b as-many alone lends others no_cycle no_cycle_now (live_of s) (live_in records) lived ended woken lives-woken owns.0 owns.1)
+        worth-of (woken-on (funding_of s) (lends_in s.limits records) t b as-many alone lends others no_cycle
+        no_cycle_now (live_of s) (live_in records) lived ended woken lives-woken owns.0 owns.1)
+        (woken-back (funding_of s) (lends_in s.limits records) t b as-many alone lends others no_cycle no_cycle_now
+        (live_of s) (live_in records) lived ended woken lives-woken owns.0 owns.1)
 
-    pub woken-own : sum_by (own_value s.limits.unit (lending (funding_of s) (lends_in s.limits records)) (live_in records)) (filter (is_backed (lending (funding_of s) (lends_in s.limits records)) (live_in records)) (numbers records))
-        ≡ sum_by (own_value s.limits.unit (funding_of s) (live_of s)) (filter (is_backed (funding_of s) (live_of s)) (numbers s.records))
+    pub woken-own : sum_by
+        (own_value s.limits.unit (lending (funding_of s) (lends_in s.limits records)) (live_in records))
+        (filter (is_backed (lending (funding_of s) (lends_in s.limits records)) (live_in records)) (numbers records))
+        ≡ sum_by (own_value s.limits.unit (funding_of s) (live_of s))
+        (filter (is_backed (funding_of s) (live_of s)) (numbers s.records))
     woken-own =
-        own-of (woken-on (funding_of s) (lends_in s.limits records) t b as-many alone lends others no_cycle no_cycle_now (live_of s) (live_in records) lived ended woken lives-woken owns.0 owns.1)
-        (woken-back (funding_of s) (lends_in s.limits records) t b as-many alone lends others no_cycle no_cycle_now (live_of s) (live_in records) lived ended woken lives-woken owns.0 owns.1)
+        own-of (woken-on (funding_of s) (lends_in s.limits records) t b as-many alone lends others no_cycle no_cycle_now
+        (live_of s) (live_in records) lived ended woken lives-woken owns.0 owns.1)
+        (woken-back (funding_of s) (lends_in s.limits records) t b as-many alone lends others no_cycle no_cycle_now
+        (live_of s) (live_in records) lived ended woken lives-woken owns.0 owns.1)
 
   -- b is backed, and all others live as they do
-  module _ (lives : (u : ℕ) → u ≢ t → option_map is_live_status (status_of records u) ≡ option_map is_live_status (status_of s.records u)) (backed : IsBacked (funding_of s) (live_of s) b) where
+  module _ (lives : (u : ℕ) → u ≢ t → option_map is_live_status (status_of records u)
+      ≡ option_map is_live_status (status_of s.records u)) (backed : IsBacked (funding_of s) (live_of s) b) where
     lives-stay : (u : ℕ) → u ≢ t → at_number (live_in records) u ≡ at_number (live_of s) u
     lives-stay u differs = live-is records u ∙ lives u differs ∙ sym (live-is s.records u)
 
-    pub blocked-worth : (v : ℕ) → thread_value s.limits.unit (lending (funding_of s) (lends_in s.limits records)) (live_in records) v ≡ value_of s v + cond (lends_lead (funding_of s) b v) (value_of s t) 0
+    pub blocked-worth : (v : ℕ) → thread_value s.limits.unit (lending (funding_of s) (lends_in s.limits records))
+        (live_in records) v ≡ value_of s v + cond (lends_lead (funding_of s) b v) (value_of s t) 0
     blocked-worth =
-        worth-of (stays-on (funding_of s) (lends_in s.limits records) t b as-many alone lends others no_cycle no_cycle_now (live_of s) (live_in records) lived ended lives-stay backed)
-        (stays-back (funding_of s) (lends_in s.limits records) t b as-many alone lends others no_cycle no_cycle_now (live_of s) (live_in records) lived ended lives-stay backed)
+        worth-of (stays-on (funding_of s) (lends_in s.limits records) t b as-many alone lends others no_cycle
+        no_cycle_now (live_of s) (live_in records) lived ended lives-stay backed)
+        (stays-back (funding_of s) (lends_in s.limits records) t b as-many alone lends others no_cycle no_cycle_now
+        (live_of s) (live_in records) lived ended lives-stay backed)
 
-    pub blocked-own : sum_by (own_value s.limits.unit (lending (funding_of s) (lends_in s.limits records)) (live_in records)) (filter (is_backed (lending (funding_of s) (lends_in s.limits records)) (live_in records)) (numbers records))
-        ≡ sum_by (own_value s.limits.unit (funding_of s) (live_of s)) (filter (is_backed (funding_of s) (live_of s)) (numbers s.records))
+    pub blocked-own : sum_by
+        (own_value s.limits.unit (lending (funding_of s) (lends_in s.limits records)) (live_in records))
+        (filter (is_backed (lending (funding_of s) (lends_in s.limits records)) (live_in records)) (numbers records))
+        ≡ sum_by (own_value s.limits.unit (funding_of s) (live_of s))
+        (filter (is_backed (funding_of s) (live_of s)) (numbers s.records))
     blocked-own =
-        own-of (stays-on (funding_of s) (lends_in s.limits records) t b as-many alone lends others no_cycle no_cycle_now (live_of s) (live_in records) lived ended lives-stay backed)
-        (stays-back (funding_of s) (lends_in s.limits records) t b as-many alone lends others no_cycle no_cycle_now (live_of s) (live_in records) lived ended lives-stay backed)
+        own-of (stays-on (funding_of s) (lends_in s.limits records) t b as-many alone lends others no_cycle no_cycle_now
+        (live_of s) (live_in records) lived ended lives-stay backed)
+        (stays-back (funding_of s) (lends_in s.limits records) t b as-many alone lends others no_cycle no_cycle_now
+        (live_of s) (live_in records) lived ended lives-stay backed)

@@ -39,12 +39,14 @@ record-there : {A : Type 0} (xs : List A) (t : ℕ) → 1 ≤ t → t ≤ length
 record-there {A} xs zero low high = absurd (omega (arith, low))
 record-there {A} xs (suc i) low high = from (slice_get_cases xs i).1
   where
-    from : ((x : A) × (i < length xs) × (slice_get xs i ≡ Some x) × (get_or xs i x ≡ x)) ⊎ ((length xs ≤ i) × (slice_get xs i ≡ None)) → (x : A) × (at_number xs (suc i) ≡ Some x)
+    from : ((x : A) × (i < length xs) × (slice_get xs i ≡ Some x) × (get_or xs i x ≡ x))
+        ⊎ ((length xs ≤ i) × (slice_get xs i ≡ None)) → (x : A) × (at_number xs (suc i) ≡ Some x)
     from (inl (x, _, here, _)) = (x, at_number-suc xs i ∙ here)
     from (inr (past, _)) = absurd (omega (arith, past, high))
 
 -- a thread that is meant has a record
-meant-record : (s : State) (thread : ThreadRef) (t : ℕ) → IsReachable s → thread_meant s thread ≡ Some t → (r : Record) × (at_number s.records t ≡ Some r)
+meant-record : (s : State) (thread : ThreadRef) (t : ℕ) → IsReachable s → thread_meant s thread ≡ Some t
+    → (r : Record) × (at_number s.records t ≡ Some r)
 meant-record s thread t (limits, events, bounds, is) meant =
     let within = meant-within s thread t meant in
     let same = count-of s (subst SameCount (sym is) (run-count (opening limits) events (opening-count limits))) in
@@ -52,18 +54,23 @@ meant-record s thread t (limits, events, bounds, is) meant =
 
 -- ---- the killed thread
 
-pub killed-record : (s : State) (t : ℕ) (r : Record) → at_number s.records t ≡ Some r → at_number (killed s t).records t ≡ Some (ended r)
+pub killed-record : (s : State) (t : ℕ) (r : Record) → at_number s.records t ≡ Some r
+    → at_number (killed s t).records t ≡ Some (ended r)
 killed-record s t r there = from (each-record_either released (λ x. refl) s.records (released_by s t) t r there)
   where
-    from : (at_number (change_each released s.records (released_by s t)) t ≡ Some r) ⊎ (at_number (change_each released s.records (released_by s t)) t ≡ Some (released r))
+    from : (at_number (change_each released s.records (released_by s t)) t ≡ Some r)
+        ⊎ (at_number (change_each released s.records (released_by s t)) t ≡ Some (released r))
         → at_number (killed s t).records t ≡ Some (ended r)
     from (inl here) = record-now ended (change_each released s.records (released_by s t)) t r here
     from (inr here) = record-now ended (change_each released s.records (released_by s t)) t (released r) here
 
-pub kill-record : (s : State) (thread : ThreadRef) (t : ℕ) (r : Record) → Kills s thread t → at_number s.records t ≡ Some r → at_number (after_kill s thread).records t ≡ Some (ended r)
-kill-record s thread t r kills there = ap (λ (a : State). at_number a.records t) (kill-is s thread t kills) ∙ killed-record s t r there
+pub kill-record : (s : State) (thread : ThreadRef) (t : ℕ) (r : Record) → Kills s thread t
+    → at_number s.records t ≡ Some r → at_number (after_kill s thread).records t ≡ Some (ended r)
+kill-record s thread t r kills there = ap (λ (a : State). at_number a.records t) (kill-is s thread t kills)
+    ∙ killed-record s t r there
 
-pub kill-lists : (s : State) (thread : ThreadRef) (t : ℕ) → IsReachable s → Kills s thread t → StandsNowhere (after_kill s thread) t
+pub kill-lists : (s : State) (thread : ThreadRef) (t : ℕ) → IsReachable s → Kills s thread t
+    → StandsNowhere (after_kill s thread) t
 kill-lists s thread t reachable kills =
     let (r, there) = meant-record s thread t reachable (kill-step s thread t kills).0 in
     dead-nowhere (after_kill s thread) (step-order s (event.Command (Kill thread)) (reachable-order s reachable)) t
@@ -73,14 +80,17 @@ kill-lists s thread t reachable kills =
 kill-number : (s : State) (thread : ThreadRef) (t : ℕ) → Kills s thread t → suc (t - 1) ≡ t
 kill-number s thread t kills = meant-number s thread t (kill-step s thread t kills).0
 
-pub kill-serves : (s : State) (thread : ThreadRef) (t : ℕ) (clients : List ℕ) → Kills s thread t → at_number (after_kill s thread).clients t ≡ Some clients → clients ≡ []
+pub kill-serves : (s : State) (thread : ThreadRef) (t : ℕ) (clients : List ℕ) → Kills s thread t
+    → at_number (after_kill s thread).clients t ≡ Some clients → clients ≡ []
 kill-serves s thread t clients kills there = from (number-set (map (without t) s.clients) t [] t)
   where
     now : at_number (set_number (map (without t) s.clients) t []) t ≡ Some clients
     now = ap (λ (a : State). at_number a.clients t) (sym (kill-is s thread t kills)) ∙ there
 
-    from : (at_number (set_number (map (without t) s.clients) t []) t ≡ at_number (map (without t) s.clients) t) ⊎ ((t ≡ suc (t - 1)) × (at_number (set_number (map (without t) s.clients) t []) t ≡ Some [])) → clients ≡ []
-    from (inl same) = some-injective clients [] (sym now ∙ number-set_same (map (without t) s.clients) t [] clients (sym same ∙ now))
+    from : (at_number (set_number (map (without t) s.clients) t []) t ≡ at_number (map (without t) s.clients) t)
+        ⊎ ((t ≡ suc (t - 1)) × (at_number (set_number (map (without t) s.clients) t []) t ≡ Some [])) → clients ≡ []
+    from (inl same) =
+        some-injective clients [] (sym now ∙ number-set_same (map (without t) s.clients) t [] clients (sym same ∙ now))
     from (inr (_, new)) = some-injective clients [] (sym now ∙ new)
 
 -- whether a mutex belongs to the thread
@@ -98,14 +108,18 @@ not-owned t o other = at (option_any (λ owner. owner == t) o) refl
     at true is = absurd (other (owned-by t o is))
     at false is = refl
 
-pub kill-owns : (s : State) (thread : ThreadRef) (t m : ℕ) (mutex : Mutex) → Kills s thread t → at_number (after_kill s thread).mutexes m ≡ Some mutex → ¬ (mutex.owner ≡ Some t)
-kill-owns s thread t m mutex kills there owner = from (number-mapped (mutex_without t) s.mutexes m mutex (ap (λ (a : State). at_number a.mutexes m) (sym (kill-is s thread t kills)) ∙ there))
+pub kill-owns : (s : State) (thread : ThreadRef) (t m : ℕ) (mutex : Mutex) → Kills s thread t
+    → at_number (after_kill s thread).mutexes m ≡ Some mutex → ¬ (mutex.owner ≡ Some t)
+kill-owns s thread t m mutex kills there owner = from (number-mapped (mutex_without t) s.mutexes m mutex
+    (ap (λ (a : State). at_number a.mutexes m) (sym (kill-is s thread t kills)) ∙ there))
   where
     from : ((held : Mutex) × ((at_number s.mutexes m ≡ Some held) × (mutex_without t held ≡ mutex))) → ⊥
     from (held, (here, is)) = whose (owner-either t t held (ap (λ (x : Mutex). x.owner) is ∙ owner))
       where
-        whose : ((is_owned_by t held ≡ false) × (held.owner ≡ Some t)) ⊎ ((is_owned_by t held ≡ true) × (slice_get (without t held.waiters) 0 ≡ Some t)) → ⊥
-        whose (inl (other, before)) = let never : true ≡ false = sym (by-owner t held.owner before) ∙ other in differs never
+        whose : ((is_owned_by t held ≡ false) × (held.owner ≡ Some t))
+            ⊎ ((is_owned_by t held ≡ true) × (slice_get (without t held.waiters) 0 ≡ Some t)) → ⊥
+        whose (inl (other, before)) = let never : true ≡ false = sym (by-owner t held.owner before) ∙ other in
+            differs never
           where
             differs : ¬ (true ≡ false)
             differs e = cc
@@ -140,16 +154,20 @@ module _ (s : State) (order : IsInOrder s) (t : ℕ) where
   waits-other u (inr next) same = without-other t (next-heir u next).held.waiters 0 u (next-heir u next).first same
 
   waits-among : (u : ℕ) → WaitsForThread s t u → IsAmong (released_by s t) u
-  waits-among u (inl client) = let (place, e) = place-in (clients_of s.clients t) u client in among-append_left (clients_of s.clients t) (filter_map (heir t) s.mutexes) place u e
+  waits-among u (inl client) = let (place, e) = place-in (clients_of s.clients t) u client in
+      among-append_left (clients_of s.clients t) (filter_map (heir t) s.mutexes) place u e
   waits-among u (inr next) = heir-released s t u (next-heir u next)
 
-  released-record : (u : ℕ) (r : Record) → WaitsForThread s t u → at_number s.records u ≡ Some r → at_number (killed s t).records u ≡ Some (released r)
+  released-record : (u : ℕ) (r : Record) → WaitsForThread s t u → at_number s.records u ≡ Some r
+      → at_number (killed s t).records u ≡ Some (released r)
   released-record u r waits there =
       let (place, e) = waits-among u waits in
-      record-other ended (change_each released s.records (released_by s t)) t u (waits-other u waits) ∙ each-record released (λ x. refl) s.records (released_by s t) place u r e there
+      record-other ended (change_each released s.records (released_by s t)) t u (waits-other u waits)
+      ∙ each-record released (λ x. refl) s.records (released_by s t) place u r e there
 
   other-record : (u : ℕ) → ¬ (u ≡ t) → ¬ WaitsForThread s t u → at_number (killed s t).records u ≡ at_number s.records u
-  other-record u other still = record-other ended (change_each released s.records (released_by s t)) t u other ∙ each-record_other released s.records (released_by s t) u absent
+  other-record u other still = record-other ended (change_each released s.records (released_by s t)) t u other
+      ∙ each-record_other released s.records (released_by s t) u absent
     where
       absent : IsAbsent (released_by s t) u
       absent place e = from (released-why s t place u e)
@@ -158,43 +176,59 @@ module _ (s : State) (order : IsInOrder s) (t : ℕ) where
           from (inl (at, is)) = still (inl (contains-at (clients_of s.clients t) at u is))
           from (inr why) = still (inr (heir-next u why))
 
-  passed-mutex : (m : ℕ) (mutex : Mutex) → Owns s t m mutex → at_number (killed s t).mutexes m ≡ Some (record { owner = slice_get mutex.waiters 0; waiters = drop 1 mutex.waiters })
+  passed-mutex : (m : ℕ) (mutex : Mutex) → Owns s t m mutex → at_number (killed s t).mutexes m
+      ≡ Some (record { owner = slice_get mutex.waiters 0; waiters = drop 1 mutex.waiters })
   passed-mutex m mutex owns =
       at_number-map (mutex_without t) s.mutexes m ∙ ap (option_map (mutex_without t)) owns.0
-      ∙ ap (λ b. Some (cond b (passed_on (without t mutex.waiters)) (record { owner = mutex.owner; waiters = without t mutex.waiters }))) (by-owner t mutex.owner owns.1)
-      ∙ ap (λ xs. Some (passed_on xs)) (without-absent t mutex.waiters (own-absent m mutex owns)) ∙ ap Some (first mutex.waiters)
+      ∙ ap (λ b. Some (cond b (passed_on (without t mutex.waiters))
+      (record { owner = mutex.owner; waiters = without t mutex.waiters }))) (by-owner t mutex.owner owns.1)
+      ∙ ap (λ xs. Some (passed_on xs)) (without-absent t mutex.waiters (own-absent m mutex owns))
+      ∙ ap Some (first mutex.waiters)
     where
       first : (waiters : List ℕ) → passed_on waiters ≡ record { owner = slice_get waiters 0; waiters = drop 1 waiters }
       first [] = refl
       first (w ∷ ws) = refl
 
-  other-port : (p : ℕ) → ¬ (status_of s.records t ≡ Some (status.Queued p)) → ¬ (status_of s.records t ≡ Some (status.Receiving p)) → at_number (killed s t).ports p ≡ at_number s.ports p
+  other-port : (p : ℕ) → ¬ (status_of s.records t ≡ Some (status.Queued p))
+      → ¬ (status_of s.records t ≡ Some (status.Receiving p)) → at_number (killed s t).ports p ≡ at_number s.ports p
   other-port p calls receives = at_number-map (port_without t) s.ports p ∙ from (at_number s.ports p) refl
     where
       from : (o : Option Port) → at_number s.ports p ≡ o → option_map (port_without t) o ≡ o
       from None there = refl
       from (Some port) there =
-          let same_calls = calls-absent t port.calls (λ place e. calls ((order.queues.callers p port there).each place t e)) in
-          let same_receivers = without-absent t port.receivers (λ place e. receives ((order.queues.receivers p port there).each place t e)) in
-          ap (λ cs. Some (record { calls = cs; receivers = without t port.receivers })) same_calls ∙ ap (λ rs. Some (record { calls = port.calls; receivers = rs })) same_receivers
+          let same_calls =
+          calls-absent t port.calls (λ place e. calls ((order.queues.callers p port there).each place t e)) in
+          let same_receivers = without-absent t port.receivers
+          (λ place e. receives ((order.queues.receivers p port there).each place t e)) in
+          ap (λ cs. Some (record { calls = cs; receivers = without t port.receivers })) same_calls
+          ∙ ap (λ rs. Some (record { calls = port.calls; receivers = rs })) same_receivers
 
-  other-mutex : (m : ℕ) → ¬ (status_of s.records t ≡ Some (status.Waiting m)) → ((mutex : Mutex) → ¬ Owns s t m mutex) → at_number (killed s t).mutexes m ≡ at_number s.mutexes m
+  other-mutex : (m : ℕ) → ¬ (status_of s.records t ≡ Some (status.Waiting m)) → ((mutex : Mutex) → ¬ Owns s t m mutex)
+      → at_number (killed s t).mutexes m ≡ at_number s.mutexes m
   other-mutex m waits owns = at_number-map (mutex_without t) s.mutexes m ∙ from (at_number s.mutexes m) refl
     where
       from : (o : Option Mutex) → at_number s.mutexes m ≡ o → option_map (mutex_without t) o ≡ o
       from None there = refl
       from (Some mutex) there =
-          ap (λ b. Some (cond b (passed_on (without t mutex.waiters)) (record { owner = mutex.owner; waiters = without t mutex.waiters }))) (not-owned t mutex.owner (λ mine. owns mutex (there, mine)))
-          ∙ ap (λ ws. Some (record { owner = mutex.owner; waiters = ws })) (without-absent t mutex.waiters (λ place e. waits ((order.queues.waiters m mutex there).each place t e)))
+          ap (λ b. Some (cond b (passed_on (without t mutex.waiters))
+          (record { owner = mutex.owner; waiters = without t mutex.waiters })))
+          (not-owned t mutex.owner (λ mine. owns mutex (there, mine)))
+          ∙ ap (λ ws. Some (record { owner = mutex.owner; waiters = ws }))
+          (without-absent t mutex.waiters (λ place e. waits ((order.queues.waiters m mutex there).each place t e)))
 
-  other-clients : (server : ℕ) → suc (t - 1) ≡ t → ¬ (server ≡ t) → ¬ (status_of s.records t ≡ Some (status.Served server)) → at_number (killed s t).clients server ≡ at_number s.clients server
+  other-clients : (server : ℕ) → suc (t - 1) ≡ t → ¬ (server ≡ t)
+      → ¬ (status_of s.records t ≡ Some (status.Served server))
+      → at_number (killed s t).clients server ≡ at_number s.clients server
   other-clients server number other served = from (number-set (map (without t) s.clients) t [] server)
     where
       kept : (o : Option (List ℕ)) → at_number s.clients server ≡ o → option_map (without t) o ≡ o
       kept None there = refl
-      kept (Some clients) there = ap Some (without-absent t clients (λ place e. served ((order.queues.served server clients there).each place t e)))
+      kept (Some clients) there = ap Some
+          (without-absent t clients (λ place e. served ((order.queues.served server clients there).each place t e)))
 
-      from : (at_number (set_number (map (without t) s.clients) t []) server ≡ at_number (map (without t) s.clients) server) ⊎ ((server ≡ suc (t - 1)) × (at_number (set_number (map (without t) s.clients) t []) server ≡ Some []))
+      from : (at_number (set_number (map (without t) s.clients) t []) server
+          ≡ at_number (map (without t) s.clients) server)
+          ⊎ ((server ≡ suc (t - 1)) × (at_number (set_number (map (without t) s.clients) t []) server ≡ Some []))
           → at_number (set_number (map (without t) s.clients) t []) server ≡ at_number s.clients server
       from (inl same) = same ∙ at_number-map (without t) s.clients server ∙ kept (at_number s.clients server) refl
       from (inr (at, _)) = absurd (other (at ∙ number))
@@ -205,27 +239,38 @@ module _ (s : State) (thread : ThreadRef) (t : ℕ) (order : IsInOrder s) (kills
   abbrev is : after_kill s thread ≡ killed s t
   is = kill-is s thread t kills
 
-  pub kill-released : (u : ℕ) (r : Record) → WaitsForThread s t u → at_number s.records u ≡ Some r → at_number (after_kill s thread).records u ≡ Some (released r)
-  kill-released u r waits there = ap (λ (a : State). at_number a.records u) is ∙ released-record s order t u r waits there
+  pub kill-released : (u : ℕ) (r : Record) → WaitsForThread s t u → at_number s.records u ≡ Some r
+      → at_number (after_kill s thread).records u ≡ Some (released r)
+  kill-released u r waits there = ap (λ (a : State). at_number a.records u) is
+      ∙ released-record s order t u r waits there
 
-  pub kill-passed : (m : ℕ) (mutex : Mutex) → Owns s t m mutex → at_number (after_kill s thread).mutexes m ≡ Some (record { owner = slice_get mutex.waiters 0; waiters = drop 1 mutex.waiters })
+  pub kill-passed : (m : ℕ) (mutex : Mutex) → Owns s t m mutex → at_number (after_kill s thread).mutexes m
+      ≡ Some (record { owner = slice_get mutex.waiters 0; waiters = drop 1 mutex.waiters })
   kill-passed m mutex owns = ap (λ (a : State). at_number a.mutexes m) is ∙ passed-mutex s order t m mutex owns
 
-  pub kill-records : (u : ℕ) → ¬ (u ≡ t) → ¬ WaitsForThread s t u → at_number (after_kill s thread).records u ≡ at_number s.records u
+  pub kill-records : (u : ℕ) → ¬ (u ≡ t) → ¬ WaitsForThread s t u
+      → at_number (after_kill s thread).records u ≡ at_number s.records u
   kill-records u other still = ap (λ (a : State). at_number a.records u) is ∙ other-record s order t u other still
 
-  pub kill-ports : (p : ℕ) → ¬ (status_of s.records t ≡ Some (status.Queued p)) → ¬ (status_of s.records t ≡ Some (status.Receiving p)) → at_number (after_kill s thread).ports p ≡ at_number s.ports p
+  pub kill-ports : (p : ℕ) → ¬ (status_of s.records t ≡ Some (status.Queued p))
+      → ¬ (status_of s.records t ≡ Some (status.Receiving p))
+      → at_number (after_kill s thread).ports p ≡ at_number s.ports p
   kill-ports p calls receives = ap (λ (a : State). at_number a.ports p) is ∙ other-port s order t p calls receives
 
-  pub kill-mutexes : (m : ℕ) → ¬ (status_of s.records t ≡ Some (status.Waiting m)) → ((mutex : Mutex) → ¬ Owns s t m mutex) → at_number (after_kill s thread).mutexes m ≡ at_number s.mutexes m
+  pub kill-mutexes : (m : ℕ) → ¬ (status_of s.records t ≡ Some (status.Waiting m))
+      → ((mutex : Mutex) → ¬ Owns s t m mutex) → at_number (after_kill s thread).mutexes m ≡ at_number s.mutexes m
   kill-mutexes m waits owns = ap (λ (a : State). at_number a.mutexes m) is ∙ other-mutex s order t m waits owns
 
-  pub kill-clients : (server : ℕ) → ¬ (server ≡ t) → ¬ (status_of s.records t ≡ Some (status.Served server)) → at_number (after_kill s thread).clients server ≡ at_number s.clients server
-  kill-clients server other served = ap (λ (a : State). at_number a.clients server) is ∙ other-clients s order t server (kill-number s thread t kills) other served
+  pub kill-clients : (server : ℕ) → ¬ (server ≡ t) → ¬ (status_of s.records t ≡ Some (status.Served server))
+      → at_number (after_kill s thread).clients server ≡ at_number s.clients server
+  kill-clients server other served = ap (λ (a : State). at_number a.clients server) is
+      ∙ other-clients s order t server (kill-number s thread t kills) other served
 
 pub kill-rest : (s : State) (thread : ThreadRef)
-    → after_kill s thread ≡ record s { records = (after_kill s thread).records; clients = (after_kill s thread).clients; ports = (after_kill s thread).ports; mutexes = (after_kill s thread).mutexes }
-kill-rest s thread = from (first_failing ((is_none (thread_meant s thread), NoThread) ∷ (option_any (is_dead_in s) (thread_meant s thread), DeadThread) ∷ []))
+    → after_kill s thread
+    ≡ record s { records = (after_kill s thread).records; clients = (after_kill s thread).clients; ports = (after_kill s thread).ports; mutexes = (after_kill s thread).mutexes }
+kill-rest s thread = from (first_failing ((is_none (thread_meant s thread), NoThread)
+    ∷ (option_any (is_dead_in s) (thread_meant s thread), DeadThread) ∷ []))
   where
     from : (o : Option Refusal) → (unless_refused s o (kill s (unwrap_or (thread_meant s thread) 0))).state
         ≡ record s {
@@ -239,45 +284,58 @@ kill-rest s thread = from (first_failing ((is_none (thread_meant s thread), NoTh
 
 -- ---- lends
 
-pub listed : (s : State) (u server : ℕ) → IsReachable s → status_of s.records u ≡ Some (status.Served server) → Contains (clients_of s.clients server) u
-listed s u server reachable is = let (place, e) = reachable-listed s reachable u server is in contains-at (clients_of s.clients server) place u e
+pub listed : (s : State) (u server : ℕ) → IsReachable s → status_of s.records u ≡ Some (status.Served server)
+    → Contains (clients_of s.clients server) u
+listed s u server reachable is = let (place, e) = reachable-listed s reachable u server is in
+    contains-at (clients_of s.clients server) place u e
 
 -- the state after a kill is reachable
 reached-kill : (s : State) (thread : ThreadRef) → IsReachable s → IsReachable (after_kill s thread)
 reached-kill s thread reachable = reachable-run s (event.Command (Kill thread) ∷ []) reachable
 
-pub kill-lends : (s : State) (thread : ThreadRef) (t u : ℕ) → IsReachable s → Kills s thread t → ¬ LendsTo (funding_of (after_kill s thread)) u t
+pub kill-lends : (s : State) (thread : ThreadRef) (t u : ℕ) → IsReachable s → Kills s thread t
+    → ¬ LendsTo (funding_of (after_kill s thread)) u t
 kill-lends s thread t u reachable kills lends = from (lends-by (after_kill s thread) u t lends)
   where
     served : (server : ℕ) → server ≡ t → status_of (after_kill s thread).records u ≡ Some (status.Served server) → ⊥
-    served server same is = nobody (at_number (after_kill s thread).clients t) refl (subst (λ k. IsAmong (clients_of (after_kill s thread).clients k) u) same (reachable-listed (after_kill s thread) (reached-kill s thread reachable) u server is))
+    served server same is = nobody (at_number (after_kill s thread).clients t) refl
+        (subst (λ k. IsAmong (clients_of (after_kill s thread).clients k) u) same
+        (reachable-listed (after_kill s thread) (reached-kill s thread reachable) u server is))
       where
         nothing : IsAmong [] u → ⊥
         nothing (place, e) = cc
 
         nobody : (o : Option (List ℕ)) → at_number (after_kill s thread).clients t ≡ o → IsAmong (unwrap_or o []) u → ⊥
         nobody None there among = nothing among
-        nobody (Some clients) there among = nothing (subst (λ (xs : List ℕ). IsAmong xs u) (kill-serves s thread t clients kills there) among)
+        nobody (Some clients) there among =
+            nothing (subst (λ (xs : List ℕ). IsAmong xs u) (kill-serves s thread t clients kills there) among)
 
     owned : (m : ℕ) → owner_of (funding_of (after_kill s thread)) m ≡ Some t → ⊥
-    owned m e = mine (at_number (after_kill s thread).mutexes m) refl (sym (ap option_flatten (at_number-map (λ (x : Mutex). x.owner) (after_kill s thread).mutexes m)) ∙ e)
+    owned m e = mine (at_number (after_kill s thread).mutexes m) refl
+        (sym (ap option_flatten (at_number-map (λ (x : Mutex). x.owner) (after_kill s thread).mutexes m)) ∙ e)
       where
-        mine : (o : Option Mutex) → at_number (after_kill s thread).mutexes m ≡ o → option_flatten (option_map (λ (x : Mutex). x.owner) o) ≡ Some t → ⊥
+        mine : (o : Option Mutex) → at_number (after_kill s thread).mutexes m ≡ o
+            → option_flatten (option_map (λ (x : Mutex). x.owner) o) ≡ Some t → ⊥
         mine None there owner = cc
         mine (Some mutex) there owner = kill-owns s thread t m mutex kills there owner
 
-    by : (now : Status) → status_of (after_kill s thread).records u ≡ Some now → borrower (funding_of (after_kill s thread)) (lend_of (after_kill s thread).limits now) ≡ Some t → ⊥
+    by : (now : Status) → status_of (after_kill s thread).records u ≡ Some now
+        → borrower (funding_of (after_kill s thread)) (lend_of (after_kill s thread).limits now) ≡ Some t → ⊥
     by status.Ready is to = cc
     by (status.Running p used) is to = cc
     by (status.Receiving p) is to = cc
     by (status.Queued p) is to =
         let limits = (after_kill s thread).limits in
         let funding = funding_of (after_kill s thread) in
-        owned (holder_of limits p) (lent-if funding (lends_at limits p) (ToMutex (holder_of limits p)) t (lent-to funding limits.without_lending (if lends_at limits p then ToMutex (holder_of limits p) else Nobody) t to))
-    by (status.Served server) is to = served server (some-injective server t (lent-to (funding_of (after_kill s thread)) (after_kill s thread).limits.without_lending (ToThread server) t to)) is
-    by (status.Waiting m) is to = owned m (lent-to (funding_of (after_kill s thread)) (after_kill s thread).limits.without_lending (ToMutex m) t to)
+        owned (holder_of limits p) (lent-if funding (lends_at limits p) (ToMutex (holder_of limits p)) t (lent-to
+        funding limits.without_lending (if lends_at limits p then ToMutex (holder_of limits p) else Nobody) t to))
+    by (status.Served server) is to = served server (some-injective server t (lent-to (funding_of (after_kill s thread))
+        (after_kill s thread).limits.without_lending (ToThread server) t to)) is
+    by (status.Waiting m) is to = owned m
+        (lent-to (funding_of (after_kill s thread)) (after_kill s thread).limits.without_lending (ToMutex m) t to)
     by status.Asleep is to = cc
     by status.Dead is to = cc
 
-    from : ((now : Status) × (status_of (after_kill s thread).records u ≡ Some now) × (borrower (funding_of (after_kill s thread)) (lend_of (after_kill s thread).limits now) ≡ Some t)) → ⊥
+    from : ((now : Status) × (status_of (after_kill s thread).records u ≡ Some now)
+        × (borrower (funding_of (after_kill s thread)) (lend_of (after_kill s thread).limits now) ≡ Some t)) → ⊥
     from (now, is, to) = by now is to

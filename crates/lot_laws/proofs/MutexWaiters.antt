@@ -8,7 +8,8 @@ waits f m t = option_any (is_to_mutex m) (at_number f.lends t)
 pub waiters-of : (f : Funding) (m u : ℕ) → Contains (waiters_for f m) u → at_number f.lends u ≡ Some (ToMutex m)
 waiters-of f m u c = by (at_number f.lends u) refl (contains-filter (waits f m) (numbers f.lends) u c).1
   where
-    by : (o : Option Lend) → at_number f.lends u ≡ o → option_any (is_to_mutex m) o ≡ true → at_number f.lends u ≡ Some (ToMutex m)
+    by : (o : Option Lend) → at_number f.lends u ≡ o → option_any (is_to_mutex m) o ≡ true
+        → at_number f.lends u ≡ Some (ToMutex m)
     by None is e = cc
     by (Some Nobody) is e = cc
     by (Some (ToThread w)) is e = cc
@@ -16,13 +17,15 @@ waiters-of f m u c = by (at_number f.lends u) refl (contains-filter (waits f m) 
 
 pub waiters-in : (f : Funding) (m u : ℕ) → at_number f.lends u ≡ Some (ToMutex m) → Contains (waiters_for f m) u
 waiters-in f m u is =
-    filter-contains (waits f m) (numbers f.lends) u (ap (option_any (is_to_mutex m)) is ∙ eq-eqb m m refl) (range-contains 1 (length f.lends) u (omega (arith, number)) (omega (arith, number, within)))
+    filter-contains (waits f m) (numbers f.lends) u (ap (option_any (is_to_mutex m)) is ∙ eq-eqb m m refl)
+    (range-contains 1 (length f.lends) u (omega (arith, number)) (omega (arith, number, within)))
   where
     number : suc (u - 1) ≡ u
     number = number-there f.lends u (ToMutex m) is
 
     within : u - 1 < length f.lends
-    within = slice_get_within f.lends (u - 1) (ToMutex m) (sym (at_number-suc f.lends (u - 1)) ∙ ap (at_number f.lends) number ∙ is)
+    within = slice_get_within f.lends (u - 1) (ToMutex m)
+        (sym (at_number-suc f.lends (u - 1)) ∙ ap (at_number f.lends) number ∙ is)
 
 pub waiters-apart : (f : Funding) (m : ℕ) → IsApart (waiters_for f m)
 waiters-apart f m = apart-filter (waits f m) (numbers f.lends) (apart-range 1 (length f.lends))

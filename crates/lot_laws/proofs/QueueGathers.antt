@@ -22,7 +22,8 @@ run-ports s (e ∷ es) =
 
 -- as many ports and holders as the sizes say
 sized : (s : State) → IsReachable s → (length s.ports ≡ s.limits.ports) × (length s.mutexes ≡ holders s.limits)
-sized s (limits, events, bounds, is) = subst (λ x. (length x.ports ≡ x.limits.ports) × (length x.mutexes ≡ holders x.limits)) (sym is) (ports, owners)
+sized s (limits, events, bounds, is) =
+    subst (λ x. (length x.ports ≡ x.limits.ports) × (length x.mutexes ≡ holders x.limits)) (sym is) (ports, owners)
   where
     ports : length (state_after (opening limits) events).ports ≡ (state_after (opening limits) events).limits.ports
     ports =
@@ -32,13 +33,17 @@ sized s (limits, events, bounds, is) = subst (λ x. (length x.ports ≡ x.limits
     owners : length (state_after (opening limits) events).mutexes ≡ holders (state_after (opening limits) events).limits
     owners = counted limits events ∙ ap holders (sym (run-holders (opening limits) events).0)
 
-module _ (s : State) (port caller : ℕ) (reachable : IsReachable s) (lends : LendsQueued s) (queued : status_of s.records caller ≡ Some (QueuedAt port)) where
+module _ (s : State) (port caller : ℕ) (reachable : IsReachable s) (lends : LendsQueued s)
+    (queued : status_of s.records caller ≡ Some (QueuedAt port)) where
   there : at_number s.ports port ≡ Some (port_at s.ports port)
   there = by (at_number s.ports port) refl (queued-listed s caller port reachable queued)
     where
-      by : (o : Option Port) → at_number s.ports port ≡ o → Contains (map (λ (c : QueuedCall). c.caller) (unwrap_or o (record { calls = []; receivers = [] })).calls) caller → at_number s.ports port ≡ Some (port_at s.ports port)
+      by : (o : Option Port) → at_number s.ports port ≡ o → Contains
+          (map (λ (c : QueuedCall). c.caller) (unwrap_or o (record { calls = []; receivers = [] })).calls) caller
+          → at_number s.ports port ≡ Some (port_at s.ports port)
       by None at c = absurd (contains-nothing caller c)
-      by (Some x) at c = at ∙ ap Some (sym (ap (λ (o : Option Port). unwrap_or o (record { calls = []; receivers = [] })) at))
+      by (Some x) at c = at
+          ∙ ap Some (sym (ap (λ (o : Option Port). unwrap_or o (record { calls = []; receivers = [] })) at))
 
   pub least : 1 ≤ port
   least = omega (arith, number-there s.ports port (port_at s.ports port) there)
@@ -46,53 +51,75 @@ module _ (s : State) (port caller : ℕ) (reachable : IsReachable s) (lends : Le
   pub small : port ≤ s.limits.ports
   small =
       let number : suc (port - 1) ≡ port = number-there s.ports port (port_at s.ports port) there in
-      let place : slice_get s.ports (port - 1) ≡ Some (port_at s.ports port) = sym (at_number-suc s.ports (port - 1)) ∙ ap (at_number s.ports) number ∙ there in
-      let below : port - 1 < length s.ports = slice_get_within s.ports (port - 1) (port_at s.ports port) place in omega (arith, number, below, (sized s reachable).0)
+      let place : slice_get s.ports (port - 1) ≡ Some (port_at s.ports port) = sym (at_number-suc s.ports (port - 1))
+      ∙ ap (at_number s.ports) number ∙ there in
+      let below : port - 1 < length s.ports = slice_get_within s.ports (port - 1) (port_at s.ports port) place in
+      omega (arith, number, below, (sized s reachable).0)
 
   -- the holder of the port's server is there
-  pub held : (was : Option ℕ) × (at_number (map (λ (x : Mutex). x.owner) s.mutexes) (holder_of s.limits port) ≡ Some was)
+  pub held : (was : Option ℕ)
+      × (at_number (map (λ (x : Mutex). x.owner) s.mutexes) (holder_of s.limits port) ≡ Some was)
   held = at (slice_get_cases (map (λ (x : Mutex). x.owner) s.mutexes) (holder_of s.limits port - 1)).1
     where
       many : length (map (λ (x : Mutex). x.owner) s.mutexes) ≡ s.limits.mutexes + s.limits.ports
-      many = length-map s.mutexes (λ (x : Mutex). x.owner) ∙ (sized s reachable).1 ∙ ap (λ b. s.limits.mutexes + cond b s.limits.ports 0) lends.1
+      many = length-map s.mutexes (λ (x : Mutex). x.owner) ∙ (sized s reachable).1
+          ∙ ap (λ b. s.limits.mutexes + cond b s.limits.ports 0) lends.1
 
       holder-is : suc (holder_of s.limits port - 1) ≡ holder_of s.limits port
       holder-is = omega (arith, least)
 
-      at : ((x : Option ℕ) × (holder_of s.limits port - 1 < length (map (λ (x : Mutex). x.owner) s.mutexes)) × (slice_get (map (λ (x : Mutex). x.owner) s.mutexes) (holder_of s.limits port - 1) ≡ Some x)
+      at : ((x : Option ℕ) × (holder_of s.limits port - 1 < length (map (λ (x : Mutex). x.owner) s.mutexes))
+          × (slice_get (map (λ (x : Mutex). x.owner) s.mutexes) (holder_of s.limits port - 1) ≡ Some x)
           × (get_or (map (λ (x : Mutex). x.owner) s.mutexes) (holder_of s.limits port - 1) x ≡ x))
-          ⊎ ((length (map (λ (x : Mutex). x.owner) s.mutexes) ≤ holder_of s.limits port - 1) × (slice_get (map (λ (x : Mutex). x.owner) s.mutexes) (holder_of s.limits port - 1) ≡ None))
+          ⊎ ((length (map (λ (x : Mutex). x.owner) s.mutexes) ≤ holder_of s.limits port - 1)
+          × (slice_get (map (λ (x : Mutex). x.owner) s.mutexes) (holder_of s.limits port - 1) ≡ None))
           → (was : Option ℕ) × (at_number (map (λ (x : Mutex). x.owner) s.mutexes) (holder_of s.limits port) ≡ Some was)
-      at (inl (x, low, is, same)) = (x, ap (at_number (map (λ (x : Mutex). x.owner) s.mutexes)) (sym holder-is) ∙ at_number-suc (map (λ (x : Mutex). x.owner) s.mutexes) (holder_of s.limits port - 1) ∙ is)
+      at (inl (x, low, is, same)) =
+          (x, ap (at_number (map (λ (x : Mutex). x.owner) s.mutexes)) (sym holder-is) ∙ at_number-suc (map (λ (x : Mutex). x.owner) s.mutexes) (holder_of s.limits port - 1) ∙ is)
       at (inr (past, none)) = absurd (omega (arith, past, many, least, small))
 
 -- ---- the event
 
-module _ (s : State) (e : Event) (port caller server : ℕ) (reachable : IsReachable s) (lends : LendsQueued s) (takes : TakesCallAt s e port caller server) where
-  gathered : (v : ℕ) → value_of (step s e).state v ≡ value_of (with_callers_ready s port) v + cond (v == server) (sum_by (value_of (with_callers_ready s port)) (callers_of s.ports port)) 0
+module _ (s : State) (e : Event) (port caller server : ℕ) (reachable : IsReachable s) (lends : LendsQueued s)
+    (takes : TakesCallAt s e port caller server) where
+  gathered : (v : ℕ) → value_of (step s e).state v ≡ value_of (with_callers_ready s port) v + cond (v == server)
+      (sum_by (value_of (with_callers_ready s port)) (callers_of s.ports port)) 0
   gathered v =
-      after-receipt (λ x. value_of x v ≡ value_of (with_callers_ready s port) v + cond (v == server) (sum_by (value_of (with_callers_ready s port)) (callers_of s.ports port)) 0) s e port caller server (reachable-order s reachable) takes
+      after-receipt (λ x. value_of x v ≡ value_of (with_callers_ready s port) v + cond (v == server)
+      (sum_by (value_of (with_callers_ready s port)) (callers_of s.ports port)) 0) s e port caller server
+      (reachable-order s reachable) takes
       (λ p ran used before others runs queued now.
       let first = least s port caller reachable lends queued in
       let last = small s port caller reachable lends queued in
       let (was, holds) = held s port caller reachable lends queued in
-      gathers s (reachable-order s reachable).no_cycle (reachable-order s reachable).funds_there lends p ran used before port caller server others runs queued (le-leb port s.limits.ports last) was holds (callers_of s.ports port)
-      (callers-apart s port reachable lends first last) (λ u is. queued-listed s u port reachable (lender-queued s port reachable first u is))
-      (λ u c. let (place, at) = place-in (callers_of s.ports port) u c in queued-lender s port reachable lends first last u (callers s port reachable lends first last place u at)) now v)
+      gathers s (reachable-order s reachable).no_cycle (reachable-order s reachable).funds_there lends p ran used before
+      port caller server others runs queued (le-leb port s.limits.ports last) was holds (callers_of s.ports port)
+      (callers-apart s port reachable lends first last)
+      (λ u is. queued-listed s u port reachable (lender-queued s port reachable first u is))
+      (λ u c. let (place, at) = place-in (callers_of s.ports port) u c in
+      queued-lender s port reachable lends first last u (callers s port reachable lends first last place u at)) now v)
 
-  pub server-gathers : value_of (step s e).state server ≡ value_of (with_callers_ready s port) server + sum_by (value_of (with_callers_ready s port)) (callers_of s.ports port)
-  server-gathers = gathered server ∙ ap (λ on. value_of (with_callers_ready s port) server + cond on (sum_by (value_of (with_callers_ready s port)) (callers_of s.ports port)) 0) (eq-eqb server server refl)
+  pub server-gathers : value_of (step s e).state server ≡ value_of (with_callers_ready s port) server
+      + sum_by (value_of (with_callers_ready s port)) (callers_of s.ports port)
+  server-gathers = gathered server ∙ ap (λ on. value_of (with_callers_ready s port) server + cond on
+      (sum_by (value_of (with_callers_ready s port)) (callers_of s.ports port)) 0) (eq-eqb server server refl)
 
   pub others-stay : (v : ℕ) → v ≢ server → value_of (step s e).state v ≡ value_of (with_callers_ready s port) v
-  others-stay v differs = omega (arith, gathered v, ap (λ on. cond on (sum_by (value_of (with_callers_ready s port)) (callers_of s.ports port)) 0) (ne_eqb v server differs))
+  others-stay v differs = omega
+      (arith, gathered v, ap (λ on. cond on (sum_by (value_of (with_callers_ready s port)) (callers_of s.ports port)) 0) (ne_eqb v server differs))
 
   pub together-stays : live_value (step s e).state ≡ live_value (with_callers_ready s port)
   together-stays =
-      after-receipt (λ x. live_value x ≡ live_value (with_callers_ready s port)) s e port caller server (reachable-order s reachable) takes
+      after-receipt (λ x. live_value x ≡ live_value (with_callers_ready s port)) s e port caller server
+      (reachable-order s reachable) takes
       (λ p ran used before others runs queued now.
       let first = least s port caller reachable lends queued in
       let last = small s port caller reachable lends queued in
       let (was, holds) = held s port caller reachable lends queued in
-      gathered-together s (reachable-order s reachable).no_cycle (reachable-order s reachable).funds_there lends p ran used before port caller server others runs queued (le-leb port s.limits.ports last) was holds (callers_of s.ports port)
-      (callers-apart s port reachable lends first last) (λ u is. queued-listed s u port reachable (lender-queued s port reachable first u is))
-      (λ u c. let (place, at) = place-in (callers_of s.ports port) u c in queued-lender s port reachable lends first last u (callers s port reachable lends first last place u at)) now)
+      gathered-together s (reachable-order s reachable).no_cycle
+      (reachable-order s reachable).funds_there lends p ran used before port caller server others runs queued
+      (le-leb port s.limits.ports last) was holds (callers_of s.ports port)
+      (callers-apart s port reachable lends first last)
+      (λ u is. queued-listed s u port reachable (lender-queued s port reachable first u is))
+      (λ u c. let (place, at) = place-in (callers_of s.ports port) u c in
+      queued-lender s port reachable lends first last u (callers s port reachable lends first last place u at)) now)

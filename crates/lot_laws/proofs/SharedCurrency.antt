@@ -6,7 +6,9 @@ use Rattle.lot_machine.specs.declared.ticket.Target.TheVariants as target
 abbrev shared : Funding
 shared = record {
   currencies = true ∷ true ∷ [];
-  tickets = Some (record { amount = 200; issuer = 0; target = target.Currency 1 }) ∷ Some (record { amount = 2; issuer = 1; target = target.Thread 1 }) ∷ Some (record { amount = 1; issuer = 1; target = target.Thread 2 }) ∷ [];
+  tickets = Some (record { amount = 200; issuer = 0; target = target.Currency 1 })
+      ∷ Some (record { amount = 2; issuer = 1; target = target.Thread 1 })
+      ∷ Some (record { amount = 1; issuer = 1; target = target.Thread 2 }) ∷ [];
   lends = Nobody ∷ Nobody ∷ [];
   owners = None ∷ None ∷ [];
 }
@@ -34,15 +36,19 @@ unchanged (inl (other, inr edge)) = same-edges other (Thread 2) edge
 unchanged (inr (t, is, inl (alive, ended))) = ended (subst (IsLive (false ∷ true ∷ [])) (thread-one 2 t is) refl)
 unchanged (inr (t, is, inr (alive, new))) = new (subst (IsLive (true ∷ true ∷ [])) (thread-one 2 t is) refl)
 
-stays : (path : List Node) (seed : Node) → IsPath shared shared (Thread 2) path seed → ¬ IsChangedNode shared shared (true ∷ true ∷ []) (false ∷ true ∷ []) seed
-stays [] seed is changed = unchanged (subst (IsChangedNode shared shared (true ∷ true ∷ []) (false ∷ true ∷ [])) (sym is) changed)
+stays : (path : List Node) (seed : Node) → IsPath shared shared (Thread 2) path seed
+    → ¬ IsChangedNode shared shared (true ∷ true ∷ []) (false ∷ true ∷ []) seed
+stays [] seed is changed =
+    unchanged (subst (IsChangedNode shared shared (true ∷ true ∷ []) (false ∷ true ∷ [])) (sym is) changed)
 stays (next ∷ rest) seed (inl (edge, is), more) changed = no-edge edge next is
 stays (next ∷ rest) seed (inr (edge, is), more) changed = no-edge edge next is
 
-pub other-untouched : ¬ Touches (after (two_to_one ++ Draw 1 0 ∷ [])) (after (two_to_one ++ Draw 1 0 ∷ Trap 1 0 Exit ∷ [])) (Thread 2)
+pub other-untouched : ¬ Touches (after (two_to_one ++ Draw 1 0 ∷ []))
+    (after (two_to_one ++ Draw 1 0 ∷ Trap 1 0 Exit ∷ [])) (Thread 2)
 other-untouched (user, (seed, (path, is), changed)) = stays path seed is changed
 
-pub other-affected : Affects (after (two_to_one ++ Draw 1 0 ∷ [])) (after (two_to_one ++ Draw 1 0 ∷ Trap 1 0 Exit ∷ [])) (Thread 2)
+pub other-affected : Affects (after (two_to_one ++ Draw 1 0 ∷ [])) (after (two_to_one ++ Draw 1 0 ∷ Trap 1 0 Exit ∷ []))
+    (Thread 2)
 other-affected = (
   Currency 1,
   ((λ e. cc), (Thread 1, (Thread 1 ∷ [], (inl (OfTicket 2, refl), refl)), inr (1, refl, inl (refl, λ e. let no : false ≡ true = some-injective false true e in cc)))),

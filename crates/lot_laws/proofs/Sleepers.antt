@@ -10,12 +10,15 @@ module _ (s : State) (t : ℕ) (sleeps : status_of s.records t ≡ Some Asleep) 
   sleeper-lends = lends-nobody s t Asleep sleeps refl
 
   pub sleeper-worth : IsInOrder s → value_of s t ≡ 0
-  sleeper-worth order = blocked-nothing s t order.no_cycle order.funds_there sleeper-lends (not-live s.records t Asleep sleeps refl)
+  sleeper-worth order =
+      blocked-nothing s t order.no_cycle order.funds_there sleeper-lends (not-live s.records t Asleep sleeps refl)
 
-  pub sleeper-tickets : IsInOrder s → (ticket : Ticket) → ticket.target ≡ target.Thread t → is_active (funding_of s) (live_of s) ticket ≡ false
+  pub sleeper-tickets : IsInOrder s → (ticket : Ticket) → ticket.target ≡ target.Thread t
+      → is_active (funding_of s) (live_of s) ticket ≡ false
   sleeper-tickets order ticket funds =
       ap (activates_within (length (funding_of s).currencies) (funding_of s) (live_of s)) funds
-      ∙ unbacked s t order.no_cycle order.funds_there sleeper-lends (not-live s.records t Asleep sleeps refl) t (lead-itself (funding_of s) t order.no_cycle)
+      ∙ unbacked s t order.no_cycle order.funds_there sleeper-lends (not-live s.records t Asleep sleeps refl) t
+      (lead-itself (funding_of s) t order.no_cycle)
 
 -- ---- a sleep that ends at once
 
@@ -24,7 +27,8 @@ again : (first second : Record → Record) (records : List Record) (t : ℕ) (r 
     → change_record second (change_record first records t) t ≡ set_number records t (second (first r))
 again first second records t r there =
     let once : change_record first records t ≡ set_number records t (first r) = rw there refl in
-    let twice : change_record second (set_number records t (first r)) t ≡ set_number (set_number records t (first r)) t (second (first r)) = rw (number-set_same records t (first r) r there) refl in
+    let twice : change_record second (set_number records t (first r)) t ≡ set_number (set_number records t (first r)) t
+    (second (first r)) = rw (number-set_same records t (first r) r there) refl in
     ap (λ rs. change_record second rs t) once ∙ twice ∙ set-set records (t - 1) (first r) (second (first r))
 
 module _ (s : State) (t : ℕ) (thread : Thread) (there : thread_at s.threads t ≡ Some thread) where
@@ -35,7 +39,8 @@ module _ (s : State) (t : ℕ) (thread : Thread) (there : thread_at s.threads t 
   wake-sleeper : status_of s.records t ≡ Some Asleep → (step s (Wake t)).state ≡ (wake s t).state
   wake-sleeper is = rw there (rw is refl)
 
-module _ (s : State) (p t ran : ℕ) (thread : Thread) (on : thread_on s.records p ≡ Some t) (there : thread_at s.threads t ≡ Some thread) where
+module _ (s : State) (p t ran : ℕ) (thread : Thread) (on : thread_on s.records p ≡ Some t)
+    (there : thread_at s.threads t ≡ Some thread) where
   abbrev leaves : Status → Record → Record
   leaves now r = with_ticks (ran + 1) (after_trap (Leaves now) p (used_there s p + ran + 1) s.limits r)
 
@@ -52,7 +57,8 @@ module _ (s : State) (p t ran : ℕ) (thread : Thread) (on : thread_on s.records
       let (r, is, _) = record-of s.records t (Running p runs.0) runs.1 in
       let yielded : change_record (leaves Ready) s.records t ≡ set_number s.records t (leaves Ready r) = rw is refl in
       wake-sleeper slept t thread there now
-      ∙ ap (λ (rs : List Record). record s { records = rs }) (again (leaves Asleep) (λ x. record x { status = Ready }) s.records t r is ∙ sym yielded)
+      ∙ ap (λ (rs : List Record). record s { records = rs })
+      (again (leaves Asleep) (λ x. record x { status = Ready }) s.records t r is ∙ sym yielded)
 
   pub sleep-wake : (step (step s (Trap p ran (Sleep tt))).state (Wake t)).state ≡ (step s (Trap p ran Yield)).state
   sleep-wake = by (event_refusal s (Trap p ran (Sleep tt))) refl
@@ -61,6 +67,7 @@ module _ (s : State) (p t ran : ℕ) (thread : Thread) (on : thread_on s.records
       same = rw on refl
 
       by : (o : Option Refusal) → event_refusal s (Trap p ran (Sleep tt)) ≡ o
-          → (step (unless_refused s o (event_effect s (Trap p ran (Sleep tt)))).state (Wake t)).state ≡ (unless_refused s o (event_effect s (Trap p ran Yield))).state
+          → (step (unless_refused s o (event_effect s (Trap p ran (Sleep tt)))).state (Wake t)).state
+          ≡ (unless_refused s o (event_effect s (Trap p ran Yield))).state
       by (Some refusal) is = wake-nobody s t thread there (Running p runs.0) runs.1 refl
       by None is = rw same woken

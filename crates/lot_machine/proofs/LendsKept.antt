@@ -33,7 +33,9 @@ module _ (f : Funding) (t : ℕ) (lend : Lend) where
   lent-either : (u s : ℕ) → LendsTo lent u s → LendsTo f u s ⊎ ((u ≡ suc (t - 1)) × (borrower f lend ≡ Some s))
   lent-either u s lends = from (number-set f.lends t lend u)
     where
-      from : (at_number (set_number f.lends t lend) u ≡ at_number f.lends u) ⊎ ((u ≡ suc (t - 1)) × (at_number (set_number f.lends t lend) u ≡ Some lend)) → LendsTo f u s ⊎ ((u ≡ suc (t - 1)) × (borrower f lend ≡ Some s))
+      from : (at_number (set_number f.lends t lend) u ≡ at_number f.lends u)
+          ⊎ ((u ≡ suc (t - 1)) × (at_number (set_number f.lends t lend) u ≡ Some lend))
+          → LendsTo f u s ⊎ ((u ≡ suc (t - 1)) × (borrower f lend ≡ Some s))
       from (inl same) = inl (ap (option_and_then (borrower f)) (sym same) ∙ lends)
       from (inr (at, is)) = inr (at, ap (option_and_then (borrower f)) (sym is) ∙ lends)
 
@@ -41,7 +43,8 @@ module _ (f : Funding) (t : ℕ) (lend : Lend) where
   pub HasNoCycle-lends_nobody : borrower f lend ≡ None → HasNoCycle f → HasNoCycle lent
   HasNoCycle-lends_nobody none no_cycle = record {
     funding = no_cycle.funding;
-    lends = no-lend-back lent (fewer-steps (LendsTo lent) (LendsTo f) (λ u s lends. from u s (lent-either u s lends)) (no-lend-return f no_cycle));
+    lends = no-lend-back lent (fewer-steps (LendsTo lent) (LendsTo f) (λ u s lends. from u s (lent-either u s lends))
+        (no-lend-return f no_cycle));
   }
     where
       from : (u s : ℕ) → LendsTo f u s ⊎ ((u ≡ suc (t - 1)) × (borrower f lend ≡ Some s)) → LendsTo f u s
@@ -49,17 +52,21 @@ module _ (f : Funding) (t : ℕ) (lend : Lend) where
       from u s (inr (at, is)) = cc
 
   -- to one from whom no lends lead back to it
-  HasNoCycle-lends_one : (b : ℕ) → borrower f lend ≡ Some b → suc (t - 1) ≡ t → ¬ LendsLead f b t → HasNoCycle f → HasNoCycle lent
+  HasNoCycle-lends_one : (b : ℕ) → borrower f lend ≡ Some b → suc (t - 1) ≡ t → ¬ LendsLead f b t → HasNoCycle f
+      → HasNoCycle lent
   HasNoCycle-lends_one b to number apart no_cycle = record {
     funding = no_cycle.funding;
-    lends = no-lend-back lent (one-step-more (LendsTo lent) (LendsTo f) t b (λ u s lends. from u s (lent-either u s lends)) (λ (chain, is). apart (chain, path-lend f b chain t is)) (no-lend-return f no_cycle));
+    lends = no-lend-back lent (one-step-more (LendsTo lent) (LendsTo f) t b (λ u s lends. from u s
+        (lent-either u s lends)) (λ (chain, is). apart (chain, path-lend f b chain t is)) (no-lend-return f no_cycle));
   }
     where
-      from : (u s : ℕ) → LendsTo f u s ⊎ ((u ≡ suc (t - 1)) × (borrower f lend ≡ Some s)) → LendsTo f u s ⊎ ((u ≡ t) × (s ≡ b))
+      from : (u s : ℕ) → LendsTo f u s ⊎ ((u ≡ suc (t - 1)) × (borrower f lend ≡ Some s))
+          → LendsTo f u s ⊎ ((u ≡ t) × (s ≡ b))
       from u s (inl old) = inl old
       from u s (inr (at, is)) = inr (at ∙ number, some-injective s b (sym is ∙ to))
 
-  pub HasNoCycle-lends : (before : Lend) → at_number f.lends t ≡ Some before → ((b : ℕ) → borrower f lend ≡ Some b → ¬ LendsLead f b t) → HasNoCycle f → HasNoCycle lent
+  pub HasNoCycle-lends : (before : Lend) → at_number f.lends t ≡ Some before
+      → ((b : ℕ) → borrower f lend ≡ Some b → ¬ LendsLead f b t) → HasNoCycle f → HasNoCycle lent
   HasNoCycle-lends before there apart no_cycle = from (borrower f lend) refl
     where
       from : (o : Option ℕ) → borrower f lend ≡ o → HasNoCycle lent
@@ -67,7 +74,8 @@ module _ (f : Funding) (t : ℕ) (lend : Lend) where
       from (Some b) to = HasNoCycle-lends_one b to (number-there f.lends t before there) (apart b to) no_cycle
 
   -- the same, by the test
-  pub HasNoCycle-lends_tested : (before : Lend) → at_number f.lends t ≡ Some before → option_any (λ b. lends_lead f b t) (borrower f lend) ≡ false → HasNoCycle f → HasNoCycle lent
+  pub HasNoCycle-lends_tested : (before : Lend) → at_number f.lends t ≡ Some before
+      → option_any (λ b. lends_lead f b t) (borrower f lend) ≡ false → HasNoCycle f → HasNoCycle lent
   HasNoCycle-lends_tested before there test no_cycle = HasNoCycle-lends before there apart no_cycle
     where
       apart : (b : ℕ) → borrower f lend ≡ Some b → ¬ LendsLead f b t
@@ -78,7 +86,8 @@ module _ (f : Funding) (t : ℕ) (lend : Lend) where
 
 -- ---- one thread more, which lends to nobody
 
-pub HasNoCycle-lends_placed : (f : Funding) (free : List ℕ) → HasNoCycle f → HasNoCycle (record f { lends = placed f.lends free Nobody })
+pub HasNoCycle-lends_placed : (f : Funding) (free : List ℕ) → HasNoCycle f
+    → HasNoCycle (record f { lends = placed f.lends free Nobody })
 HasNoCycle-lends_placed f free no_cycle = record {
   funding = no_cycle.funding;
   lends = no-lend-back more (fewer-steps (LendsTo more) (LendsTo f) before (no-lend-return f no_cycle));
@@ -90,7 +99,8 @@ HasNoCycle-lends_placed f free no_cycle = record {
     before : (u s : ℕ) → LendsTo more u s → LendsTo f u s
     before u s lends = from (number-placed f.lends free Nobody u)
       where
-        from : (at_number (placed f.lends free Nobody) u ≡ at_number f.lends u) ⊎ (at_number (placed f.lends free Nobody) u ≡ Some Nobody) → LendsTo f u s
+        from : (at_number (placed f.lends free Nobody) u ≡ at_number f.lends u)
+            ⊎ (at_number (placed f.lends free Nobody) u ≡ Some Nobody) → LendsTo f u s
         from (inl same) = ap (option_and_then (borrower f)) (sym same) ∙ lends
         from (inr is) = let none : None ≡ Some s = ap (option_and_then (borrower f)) (sym is) ∙ lends in cc
 
@@ -110,22 +120,27 @@ module _ (f : Funding) (m : ℕ) (owner : Option ℕ) where
   owned-borrower s (ToThread server) e = inl e
   owned-borrower s (ToMutex k) e = from (number-set f.owners m owner k)
     where
-      from : (at_number (set_number f.owners m owner) k ≡ at_number f.owners k) ⊎ ((k ≡ suc (m - 1)) × (at_number (set_number f.owners m owner) k ≡ Some owner)) → (owner_of f k ≡ Some s) ⊎ (owner ≡ Some s)
+      from : (at_number (set_number f.owners m owner) k ≡ at_number f.owners k)
+          ⊎ ((k ≡ suc (m - 1)) × (at_number (set_number f.owners m owner) k ≡ Some owner))
+          → (owner_of f k ≡ Some s) ⊎ (owner ≡ Some s)
       from (inl same) = inl (ap option_flatten (sym same) ∙ e)
       from (inr (at, is)) = inr (ap option_flatten (sym is) ∙ e)
 
   owned-either : (u s : ℕ) → LendsTo owned u s → LendsTo f u s ⊎ (owner ≡ Some s)
   owned-either u s lends = from (at_number f.lends u) lends
     where
-      from : (o : Option Lend) → option_and_then (borrower owned) o ≡ Some s → (option_and_then (borrower f) o ≡ Some s) ⊎ (owner ≡ Some s)
+      from : (o : Option Lend) → option_and_then (borrower owned) o ≡ Some s
+          → (option_and_then (borrower f) o ≡ Some s) ⊎ (owner ≡ Some s)
       from None e = cc
       from (Some lend) e = owned-borrower s lend e
 
 -- a mutex that gets free
-pub HasNoCycle-freed : (f : Funding) (m : ℕ) → HasNoCycle f → HasNoCycle (record f { owners = set_number f.owners m None })
+pub HasNoCycle-freed : (f : Funding) (m : ℕ) → HasNoCycle f
+    → HasNoCycle (record f { owners = set_number f.owners m None })
 HasNoCycle-freed f m no_cycle = record {
   funding = no_cycle.funding;
-  lends = no-lend-back (owned f m None) (fewer-steps (LendsTo (owned f m None)) (LendsTo f) (λ u s lends. from u s (owned-either f m None u s lends)) (no-lend-return f no_cycle));
+  lends = no-lend-back (owned f m None) (fewer-steps (LendsTo (owned f m None)) (LendsTo f)
+      (λ u s lends. from u s (owned-either f m None u s lends)) (no-lend-return f no_cycle));
 }
   where
     from : (u s : ℕ) → LendsTo f u s ⊎ (None ≡ Some s) → LendsTo f u s
@@ -133,10 +148,12 @@ HasNoCycle-freed f m no_cycle = record {
     from u s (inr none) = cc
 
 -- a mutex that a thread owns then which lends to nobody, if it is there
-pub HasNoCycle-owned_any : (f : Funding) (m w : ℕ) → ((lend : Lend) → at_number f.lends w ≡ Some lend → lend ≡ Nobody) → HasNoCycle f → HasNoCycle (record f { owners = set_number f.owners m (Some w) })
+pub HasNoCycle-owned_any : (f : Funding) (m w : ℕ) → ((lend : Lend) → at_number f.lends w ≡ Some lend → lend ≡ Nobody)
+    → HasNoCycle f → HasNoCycle (record f { owners = set_number f.owners m (Some w) })
 HasNoCycle-owned_any f m w nobody no_cycle = record {
   funding = no_cycle.funding;
-  lends = no-lend-back (owned f m (Some w)) (steps-to-end (LendsTo (owned f m (Some w))) (LendsTo f) w (λ u s lends. from u s (owned-either f m (Some w) u s lends)) ends (no-lend-return f no_cycle));
+  lends = no-lend-back (owned f m (Some w)) (steps-to-end (LendsTo (owned f m (Some w))) (LendsTo f) w
+      (λ u s lends. from u s (owned-either f m (Some w) u s lends)) ends (no-lend-return f no_cycle));
 }
   where
     from : (u s : ℕ) → LendsTo f u s ⊎ (Some w ≡ Some s) → LendsTo f u s ⊎ (s ≡ w)
@@ -146,9 +163,12 @@ HasNoCycle-owned_any f m w nobody no_cycle = record {
     ends : (s : ℕ) → ¬ LendsTo (owned f m (Some w)) w s
     ends s lends = at (at_number f.lends w) refl lends
       where
-        at : (o : Option Lend) → at_number f.lends w ≡ o → option_and_then (borrower (owned f m (Some w))) o ≡ Some s → ⊥
+        at : (o : Option Lend) → at_number f.lends w ≡ o → option_and_then (borrower (owned f m (Some w))) o ≡ Some s
+            → ⊥
         at None is e = cc
-        at (Some lend) is e = let none : None ≡ Some s = sym (ap (borrower (owned f m (Some w))) (nobody lend is)) ∙ e in cc
+        at (Some lend) is e = let none : None ≡ Some s = sym (ap (borrower (owned f m (Some w))) (nobody lend is))
+            ∙ e in cc
 
-pub HasNoCycle-owned : (f : Funding) (m w : ℕ) → at_number f.lends w ≡ Some Nobody → HasNoCycle f → HasNoCycle (record f { owners = set_number f.owners m (Some w) })
+pub HasNoCycle-owned : (f : Funding) (m w : ℕ) → at_number f.lends w ≡ Some Nobody → HasNoCycle f
+    → HasNoCycle (record f { owners = set_number f.owners m (Some w) })
 HasNoCycle-owned f m w nobody = HasNoCycle-owned_any f m w (λ lend is. some-injective lend Nobody (sym is ∙ nobody))

@@ -19,17 +19,20 @@ abbrev pub HasNoReturn : (ℕ → ℕ → Type 0) → Type 0
 HasNoReturn R = (t : ℕ) → ¬ LeadsOn R t t
 
 -- one path, and after it another
-pub path-then : (R : ℕ → ℕ → Type 0) (t : ℕ) (chain : List ℕ) (s : ℕ) (more : List ℕ) (u : ℕ) → IsPath R t chain s → IsPath R s more u → IsPath R t (chain ++ more) u
+pub path-then : (R : ℕ → ℕ → Type 0) (t : ℕ) (chain : List ℕ) (s : ℕ) (more : List ℕ) (u : ℕ) → IsPath R t chain s
+    → IsPath R s more u → IsPath R t (chain ++ more) u
 path-then R t [] s more u e is = subst (λ x. IsPath R x more u) (sym e) is
 path-then R t (r ∷ rest) s more u (first, others) is = (first, path-then R r rest s more u others is)
 
-pub path-fewer : (Q R : ℕ → ℕ → Type 0) → ((t s : ℕ) → Q t s → R t s) → (t : ℕ) (chain : List ℕ) (u : ℕ) → IsPath Q t chain u → IsPath R t chain u
+pub path-fewer : (Q R : ℕ → ℕ → Type 0) → ((t s : ℕ) → Q t s → R t s) → (t : ℕ) (chain : List ℕ) (u : ℕ)
+    → IsPath Q t chain u → IsPath R t chain u
 path-fewer Q R within t [] u is = is
 path-fewer Q R within t (s ∷ rest) u (first, others) = (within t s first, path-fewer Q R within s rest u others)
 
 -- with fewer steps there is still no way back
 pub fewer-steps : (Q R : ℕ → ℕ → Type 0) → ((t s : ℕ) → Q t s → R t s) → HasNoReturn R → HasNoReturn Q
-fewer-steps Q R within none t (s, first, (chain, is)) = none t (s, within t s first, (chain, path-fewer Q R within s chain t is))
+fewer-steps Q R within none t (s, first, (chain, is)) =
+    none t (s, within t s first, (chain, path-fewer Q R within s chain t is))
 
 -- With one step more, from a to b, there is still none if nothing leads from b to a.
 module _ (Q R : ℕ → ℕ → Type 0) (a b : ℕ) (either : (t s : ℕ) → Q t s → R t s ⊎ ((t ≡ a) × (s ≡ b))) where
@@ -38,7 +41,8 @@ module _ (Q R : ℕ → ℕ → Type 0) (a b : ℕ) (either : (t s : ℕ) → Q 
   around t [] u e = inl ([], e)
   around t (s ∷ rest) u (first, others) = join (either t s first) (around s rest u others)
     where
-      join : R t s ⊎ ((t ≡ a) × (s ≡ b)) → Leads R s u ⊎ (Leads R s a × Leads R b u) → Leads R t u ⊎ (Leads R t a × Leads R b u)
+      join : R t s ⊎ ((t ≡ a) × (s ≡ b)) → Leads R s u ⊎ (Leads R s a × Leads R b u)
+          → Leads R t u ⊎ (Leads R t a × Leads R b u)
       join (inl old) (inl (chain, is)) = inl (s ∷ chain, (old, is))
       join (inl old) (inr ((chain, is), after)) = inr ((s ∷ chain, (old, is)), after)
       join (inr (from, to)) (inl (chain, is)) = inr (([], from), (chain, subst (λ x. IsPath R x chain u) to is))
@@ -49,8 +53,10 @@ module _ (Q R : ℕ → ℕ → Type 0) (a b : ℕ) (either : (t s : ℕ) → Q 
     where
       join : R t s ⊎ ((t ≡ a) × (s ≡ b)) → Leads R s t ⊎ (Leads R s a × Leads R b t) → ⊥
       join (inl old) (inl lead) = none t (s, old, lead)
-      join (inl old) (inr ((before, to_a), (after, to_t))) = apart (after ++ s ∷ before, path-then R b after t (s ∷ before) a to_t (old, to_a))
-      join (inr (from, to)) (inl (chain, is)) = apart (chain, subst (λ x. IsPath R b chain x) from (subst (λ x. IsPath R x chain t) to is))
+      join (inl old) (inr ((before, to_a), (after, to_t))) =
+          apart (after ++ s ∷ before, path-then R b after t (s ∷ before) a to_t (old, to_a))
+      join (inr (from, to)) (inl (chain, is)) =
+          apart (chain, subst (λ x. IsPath R b chain x) from (subst (λ x. IsPath R x chain t) to is))
       join (inr (from, to)) (inr (before, (after, is))) = apart (after, subst (λ x. IsPath R b after x) from is)
 
 -- nothing comes next
@@ -83,7 +89,8 @@ module _ (Q R : ℕ → ℕ → Type 0) (either : (t s : ℕ) → Q t s → R t 
       join (inr ends) (inl lead) = last s rest t ends others s first
 
 -- With more steps, all to w, there is still none if w steps nowhere.
-pub steps-to-end : (Q R : ℕ → ℕ → Type 0) (w : ℕ) → ((t s : ℕ) → Q t s → R t s ⊎ (s ≡ w)) → IsEnd Q w → HasNoReturn R → HasNoReturn Q
+pub steps-to-end : (Q R : ℕ → ℕ → Type 0) (w : ℕ) → ((t s : ℕ) → Q t s → R t s ⊎ (s ≡ w)) → IsEnd Q w → HasNoReturn R
+    → HasNoReturn Q
 steps-to-end Q R w either ends = steps-to-ends Q R (λ t s step. from s (either t s step))
   where
     from : {A : Type 0} (s : ℕ) → A ⊎ (s ≡ w) → A ⊎ IsEnd Q s

@@ -4,7 +4,8 @@ use Rattle.lot_machine.specs.declared.event.Event.TheVariants as event
 use Rattle.lot_machine.proofs.StepChanges.{HasSizesOf, HasGrownFrom, IsConsole, Work, kept, change-grown, change-sizes, change-tickets, checked-leads, by_event, step-leads}
 
 -- a change of a thread's record
-pub change-length : (change : Record → Record) (records : List Record) (t : ℕ) → length (change_record change records t) ≡ length records
+pub change-length : (change : Record → Record) (records : List Record) (t : ℕ)
+    → length (change_record change records t) ≡ length records
 change-length change records t = at (at_number records t) refl
   where
     at : (o : Option Record) → at_number records t ≡ o → length (change_record change records t) ≡ length records
@@ -12,17 +13,22 @@ change-length change records t = at (at_number records t) refl
     at (Some r) is = rw is (length-set records (t - 1) (change r))
 
 -- a change of each of these threads' records
-pub each-length : (change : Record → Record) (records : List Record) (threads : List ℕ) → length (change_each change records threads) ≡ length records
+pub each-length : (change : Record → Record) (records : List Record) (threads : List ℕ)
+    → length (change_each change records threads) ≡ length records
 each-length change records [] = refl
-each-length change records (t ∷ ts) = each-length change (change_record change records t) ts ∙ change-length change records t
+each-length change records (t ∷ ts) = each-length change (change_record change records t) ts
+    ∙ change-length change records t
 
 -- a kill
 pub killed-length : (s : State) (t : ℕ) → length (killed s t).records ≡ length s.records
-killed-length s t = change-length ended (change_each released s.records (released_by s t)) t ∙ each-length released s.records (released_by s t)
+killed-length s t = change-length ended (change_each released s.records (released_by s t)) t
+    ∙ each-length released s.records (released_by s t)
 
 -- a trap's work, whether it is refused or not
-pub checked-sizes : (s : State) (t : ℕ) (action : Action) (o : Option TrapRefusal) → HasSizesOf s (checked_effect s o (trap_effect s t action)).state
-checked-sizes s t action o = kept (HasSizesOf s) (change-sizes Work s (λ e. cc)) (checked-leads s t action o).0 (refl, refl, refl)
+pub checked-sizes : (s : State) (t : ℕ) (action : Action) (o : Option TrapRefusal)
+    → HasSizesOf s (checked_effect s o (trap_effect s t action)).state
+checked-sizes s t action o =
+    kept (HasSizesOf s) (change-sizes Work s (λ e. cc)) (checked-leads s t action o).0 (refl, refl, refl)
 
 -- an event of a processor is not the console's
 not-console : (s : State) (e : Event) (q : ℕ) → processor_of e ≡ Some q → ¬ IsConsole (by_event s e)
@@ -40,14 +46,16 @@ other-sizes s e other = kept (HasSizesOf s) (change-sizes (by_event s e) s other
 
 -- and the tickets
 pub other-tickets : (s : State) (e : Event) → ¬ IsConsole (by_event s e) → (step s e).state.tickets ≡ s.tickets
-other-tickets s e other = kept (λ a. a.tickets ≡ s.tickets) (change-tickets (by_event s e) s other) (step-leads s e) refl
+other-tickets s e other =
+    kept (λ a. a.tickets ≡ s.tickets) (change-tickets (by_event s e) s other) (step-leads s e) refl
 
 pub step-sizes : (s : State) (e : Event) (q : ℕ) → processor_of e ≡ Some q → HasSizesOf s (step s e).state
 step-sizes s e q on = other-sizes s e (not-console s e q on)
 
 -- any event leaves the limits, and a thread that it makes has a record
 pub step-grown : (s : State) (e : Event) → HasGrownFrom s (step s e).state
-step-grown s e = kept (HasGrownFrom s) (change-grown (by_event s e) s) (step-leads s e) (refl, (0, omega arith, omega arith))
+step-grown s e =
+    kept (HasGrownFrom s) (change-grown (by_event s e) s) (step-leads s e) (refl, (0, omega arith, omega arith))
 
 pub command-grown : (s : State) (c : Command) → HasGrownFrom s (command_step s c).state
 command-grown s c = step-grown s (event.Command c)

@@ -7,7 +7,8 @@ use Rattle.lot_machine.proofs.StepChanges.{Work, kept, Apart, change-apart, chan
 abbrev pub IsApart : ℕ → ℕ → List Record → After → Type 0
 IsApart p t records after = RunsApart records × RunsAlone records p t × StopsIfLeaves after
 
-pub effect-apart : (s : State) (p t u : ℕ) (action : Action) → RunsApart s.records → RunsAlone s.records p t → IsApart p t (trap_effect s u action).state.records (trap_effect s u action).after
+pub effect-apart : (s : State) (p t u : ℕ) (action : Action) → RunsApart s.records → RunsAlone s.records p t
+    → IsApart p t (trap_effect s u action).state.records (trap_effect s u action).after
 effect-apart s p t u action runs alone =
     let works = effect-leads s u action in
     (kept Apart (change-apart Work s runs) works.0 runs, kept (λ a. RunsAlone a.records p t) (change-alone s p t) works.0 alone, works.1)

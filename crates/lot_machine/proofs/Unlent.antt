@@ -24,9 +24,11 @@ lends-nothing limits off Dead = refl
 
 pub lends-to-nobody : (limits : Sizes) → limits.without_lending ≡ true → (f : Funding) (records : List Record) (u : ℕ)
     → option_and_then (borrower f) (at_number (map (λ (r : Record). lend_of limits r.status) records) u) ≡ None
-lends-to-nobody limits off f records u = ap (option_and_then (borrower f)) (at_number-map (λ (r : Record). lend_of limits r.status) records u) ∙ by (at_number records u)
+lends-to-nobody limits off f records u = ap (option_and_then (borrower f))
+    (at_number-map (λ (r : Record). lend_of limits r.status) records u) ∙ by (at_number records u)
   where
-    by : (o : Option Record) → option_and_then (borrower f) (option_map (λ (r : Record). lend_of limits r.status) o) ≡ None
+    by : (o : Option Record)
+        → option_and_then (borrower f) (option_map (λ (r : Record). lend_of limits r.status) o) ≡ None
     by None = refl
     by (Some r) = ap (borrower f) (lends-nothing limits off r.status)
 
@@ -41,18 +43,21 @@ module _ (f : Funding) (live : List Bool) (nobody : (u : ℕ) → borrower_of f 
 
       by : (k : ℕ) → lends_lead_within k f u t ≡ true → u ≡ t
       by zero is = eqb-true u t is
-      by (suc k) is = at k (u == t) refl (sym (ap (λ o. (u == t) || option_any (λ s. lends_lead_within k f s t) o) (nobody u)) ∙ is)
+      by (suc k) is =
+          at k (u == t) refl (sym (ap (λ o. (u == t) || option_any (λ s. lends_lead_within k f s t) o) (nobody u)) ∙ is)
 
   unbacked : (u : ℕ) → is_live live u ≡ false → is_backed f live u ≡ false
   unbacked u gone = by (length f.lends)
     where
       by : (k : ℕ) → is_backed_within k f live u ≡ false
       by zero = gone
-      by (suc k) = ap (λ o. is_live live u || option_any (λ s. is_backed_within k f live s) o) (nobody u) ∙ ap (λ b. b || false) gone
+      by (suc k) = ap (λ o. is_live live u || option_any (λ s. is_backed_within k f live s) o) (nobody u)
+          ∙ ap (λ b. b || false) gone
 
   own-nothing : (unit u : ℕ) → is_live live u ≡ false → own_value unit f live u ≡ 0
   own-nothing unit u gone =
-      tickets.sum-same (ticket_value unit f live) (λ x. 0) (λ x. is_thread u x.target) f.tickets (λ i x at funds. each x (is_thread-is u x.target funds)) ∙ sum-nothing (backing_thread f u)
+      tickets.sum-same (ticket_value unit f live) (λ x. 0) (λ x. is_thread u x.target) f.tickets
+      (λ i x at funds. each x (is_thread-is u x.target funds)) ∙ sum-nothing (backing_thread f u)
     where
       off : (x : Ticket) → x.target ≡ target.Thread u → is_active f live x ≡ false
       off x funds = ap (activates_within (length f.currencies) f live) funds ∙ unbacked u gone
@@ -67,7 +72,8 @@ module _ (f : Funding) (live : List Bool) (nobody : (u : ℕ) → borrower_of f 
   pub unlent-nothing : (unit t : ℕ) → is_live live t ≡ false → thread_value unit f live t ≡ 0
   unlent-nothing unit t gone =
       sum-filter (own_value unit f live) (λ u. lends_lead f u t) (numbers f.lends)
-      ∙ sum-same (λ u. cond (lends_lead f u t) (own_value unit f live u) 0) (λ u. 0) (numbers f.lends) (λ u. each u (lends_lead f u t) refl) ∙ sum-nothing (numbers f.lends)
+      ∙ sum-same (λ u. cond (lends_lead f u t) (own_value unit f live u) 0) (λ u. 0) (numbers f.lends)
+      (λ u. each u (lends_lead f u t) refl) ∙ sum-nothing (numbers f.lends)
     where
       each : (u : ℕ) (b : Bool) → lends_lead f u t ≡ b → cond b (own_value unit f live u) 0 ≡ 0
       each u false is = refl

@@ -18,7 +18,8 @@ taken (x ∷ xs) (suc i) (suc n) t low at = taken xs i n t (omega (arith, low)) 
 
 -- threads with this status, none of which stands at an earlier place, are a queue
 pub queue-from : (records : List Record) (s : Status) (waiters : List ℕ) (n : ℕ) → length waiters ≤ n
-    → ((k : ℕ) → k < n → status_of records (slice_index waiters k) ≡ Some s) → ((k : ℕ) → k < n → ¬ Contains (take k waiters) (slice_index waiters k)) → IsQueue records s waiters
+    → ((k : ℕ) → k < n → status_of records (slice_index waiters k) ≡ Some s)
+    → ((k : ℕ) → k < n → ¬ Contains (take k waiters) (slice_index waiters k)) → IsQueue records s waiters
 queue-from records s waiters n all wait first = record { each = each; once = once }
   where
     stands : (place t : ℕ) → slice_get waiters place ≡ Some t → slice_index waiters place ≡ t
@@ -30,9 +31,11 @@ queue-from records s waiters n all wait first = record { each = each; once = onc
     each : (place t : ℕ) → slice_get waiters place ≡ Some t → status_of records t ≡ Some s
     each place t at = ap (status_of records) (sym (stands place t at)) ∙ wait place (within place t at)
 
-    earlier : (place other t : ℕ) → place < other → slice_get waiters place ≡ Some t → slice_get waiters other ≡ Some t → ⊥
+    earlier : (place other t : ℕ) → place < other → slice_get waiters place ≡ Some t → slice_get waiters other ≡ Some t
+        → ⊥
     earlier place other t below at also =
-        first other (within other t also) (subst (Contains (take other waiters)) (sym (stands other t also)) (contains-at (take other waiters) place t (taken waiters place other t below at)))
+        first other (within other t also) (subst (Contains (take other waiters)) (sym (stands other t also))
+        (contains-at (take other waiters) place t (taken waiters place other t below at)))
 
     once : (place other t : ℕ) → slice_get waiters place ≡ Some t → slice_get waiters other ≡ Some t → place ≡ other
     once place other t at also = by (cases_lt place other)
@@ -46,5 +49,6 @@ queue-from records s waiters n all wait first = record { each = each; once = onc
             last (inr below) = absurd (earlier other place t below also at)
 
 -- a queue has each of its threads at one place
-pub queue-waits : (records : List Record) (s : Status) (waiters : List ℕ) (k : ℕ) → IsQueue records s waiters → k < length waiters → status_of records (slice_index waiters k) ≡ Some s
+pub queue-waits : (records : List Record) (s : Status) (waiters : List ℕ) (k : ℕ) → IsQueue records s waiters
+    → k < length waiters → status_of records (slice_index waiters k) ≡ Some s
 queue-waits records s waiters k queue low = queue.each k (slice_index waiters k) (slice_get-get_or waiters k 0 low)

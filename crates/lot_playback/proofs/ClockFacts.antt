@@ -29,11 +29,14 @@ module _ {A : Type 0} where
   rest-is (x ∷ xs) rest (suc n) e = let later : xs ≡ take n xs ++ rest = cc in rest-is xs rest n later
 
 -- the first turn that is made from a moment on is the one that is due
-due-first : (program : Program) (room : ℕ) (m : Moment) (turn : TimedTurn) → take 1 (turns_from program room m) ≡ turn ∷ [] → (0 < room) × (next_due program m ≡ Some (record { time = turn.time; actor = turn.actor }))
+due-first : (program : Program) (room : ℕ) (m : Moment) (turn : TimedTurn) → take 1 (turns_from program room m) ≡ turn
+    ∷ [] → (0 < room) × (next_due program m ≡ Some (record { time = turn.time; actor = turn.actor }))
 due-first program zero m turn wrong = absurd (let e : [] ≡ turn ∷ [] = wrong in cc)
 due-first program (suc room) m turn is = (omega arith, from (next_due program m) refl is)
   where
-    from : (o : Option Due) → next_due program m ≡ o → take 1 (due_first program m (λ done. turns_from program room (moment_after m done)) o) ≡ turn ∷ [] → next_due program m ≡ Some (record { time = turn.time; actor = turn.actor })
+    from : (o : Option Due) → next_due program m ≡ o
+        → take 1 (due_first program m (λ done. turns_from program room (moment_after m done)) o) ≡ turn ∷ []
+        → next_due program m ≡ Some (record { time = turn.time; actor = turn.actor })
     from None is wrong = absurd (let e : [] ≡ turn ∷ [] = wrong in cc)
     from (Some due) is first =
         let same : turn_due program m due ≡ turn = cc in
@@ -44,17 +47,20 @@ due-first program (suc room) m turn is = (omega arith, from (next_due program m)
 abbrev stage : Seen → Stage
 stage seen = record { seen = seen; made = length seen.history }
 
-timed-turns : (program : Program) (d : Option ℕ) → IsSome d → turns_by program d ≡ turns_in_time (opening_world program) (timed_turns program)
+timed-turns : (program : Program) (d : Option ℕ) → IsSome d
+    → turns_by program d ≡ turns_in_time (opening_world program) (timed_turns program)
 timed-turns program None wrong = absurd (let e : false ≡ true = wrong in cc)
 timed-turns program (Some duration) is = refl
 
 -- they are those that the clocks give
-pub time-left : (seen : Seen) (timekeeper : Timekeeper) → IsAtTime seen timekeeper → turns_left (stage seen) ≡ turns_in_time (world_of seen) (drop (length seen.history) (timed_turns seen.setting.program))
+pub time-left : (seen : Seen) (timekeeper : Timekeeper) → IsAtTime seen timekeeper → turns_left (stage seen)
+    ≡ turns_in_time (world_of seen) (drop (length seen.history) (timed_turns seen.setting.program))
 time-left seen timekeeper is =
     let program = seen.setting.program in
     let n = length seen.history in
     let world : world_after_timed (opening_world program) (take n (timed_turns program)) ≡ world_of seen =
-    sym (ap (λ (m : Moment). m.world) is.followed.moment ∙ moment-world (opening_moment program) (turns_done program seen)) in
+    sym (ap (λ (m : Moment). m.world) is.followed.moment
+    ∙ moment-world (opening_moment program) (turns_done program seen)) in
     ap (drop n) (timed-turns program program.duration is.timed)
     ∙ drop-timed (opening_world program) (timed_turns program) n
     ∙ ap (λ (w : World). turns_in_time w (drop n (timed_turns program))) world
@@ -67,14 +73,17 @@ module _ (seen : Seen) (timekeeper : Timekeeper) (is : IsAtTime seen timekeeper)
   left = time-left seen timekeeper is
 
   pub time-none : next_turns program seen ≡ [] → turns_left (stage seen) ≡ []
-  time-none none = left ∙ ap (turns_in_time (world_of seen)) (next-none (drop (length seen.history) (timed_turns program)) none)
+  time-none none = left
+      ∙ ap (turns_in_time (world_of seen)) (next-none (drop (length seen.history) (timed_turns program)) none)
 
   -- the turn that is due is next
-  pub time-next : (due : Due) (next : NextTurn) → IsDue program seen timekeeper due → next.time ≡ Some due.time → next.actor ≡ due.actor → IsNext (stage seen) next
+  pub time-next : (due : Due) (next : NextTurn) → IsDue program seen timekeeper due → next.time ≡ Some due.time
+      → next.actor ≡ due.actor → IsNext (stage seen) next
   time-next due next its time actor =
       let turn = turn_due program (moment_in seen timekeeper) due in
       let room : length seen.history < timed_room = omega (arith, its.room, is.followed.room_is) in
-      let goes = next-some (timed_turns program) (length seen.history) turn (one-next program seen timekeeper is.followed due its.first room) in (
+      let goes = next-some (timed_turns program) (length seen.history) turn
+      (one-next program seen timekeeper is.followed due its.first room) in (
         turn_in_time (world_of seen) turn,
         turns_in_time turn.turn.world (drop (length seen.history + 1) (timed_turns program)),
         left ∙ ap (turns_in_time (world_of seen)) goes,
@@ -84,16 +93,19 @@ module _ (seen : Seen) (timekeeper : Timekeeper) (is : IsAtTime seen timekeeper)
   -- if none is left, all are made
   pub time-end : turns_left (stage seen) ≡ [] → IsAtEnd seen timekeeper
   time-end none =
-      let nothing : drop (length seen.history) (timed_turns program) ≡ [] = none-timed (world_of seen) (drop (length seen.history) (timed_turns program)) (sym left ∙ none) in
+      let nothing : drop (length seen.history) (timed_turns program) ≡ [] =
+      none-timed (world_of seen) (drop (length seen.history) (timed_turns program)) (sym left ∙ none) in
       record { followed = is.followed; all = all-done program seen timekeeper is.followed (ap (take 1) nothing) }
 
   -- ---- the turn that is next
 
   module _ (next : NextTurn) (its : IsNext (stage seen) next) where
-    time-goes : (turn : TimedTurn) × (take 1 (drop (length seen.history) (timed_turns program)) ≡ turn ∷ []) × (turn_in_time (world_of seen) turn ≡ its.0)
+    time-goes : (turn : TimedTurn) × (take 1 (drop (length seen.history) (timed_turns program)) ≡ turn ∷ [])
+        × (turn_in_time (world_of seen) turn ≡ its.0)
     time-goes = from (drop (length seen.history) (timed_turns program)) (sym left ∙ its.2)
       where
-        from : (xs : List TimedTurn) → turns_in_time (world_of seen) xs ≡ its.0 ∷ its.1 → (turn : TimedTurn) × (take 1 xs ≡ turn ∷ []) × (turn_in_time (world_of seen) turn ≡ its.0)
+        from : (xs : List TimedTurn) → turns_in_time (world_of seen) xs ≡ its.0 ∷ its.1
+            → (turn : TimedTurn) × (take 1 xs ≡ turn ∷ []) × (turn_in_time (world_of seen) turn ≡ its.0)
         from [] wrong = absurd (let e : [] ≡ its.0 ∷ its.1 = wrong in cc)
         from (x ∷ xs) same = (x, refl, cc)
 
@@ -104,25 +116,32 @@ module _ (seen : Seen) (timekeeper : Timekeeper) (is : IsAtTime seen timekeeper)
         let some : next.time ≡ Some goes.0.time = its.3.time ∙ ap (λ (m : MadeTurn). m.time) (sym goes.2) in
         absurd (let wrong : Some goes.0.time ≡ None = sym some ∙ none in cc)
 
-    pub time-due : (time : ℕ) → next.time ≡ Some time → time < 2 ^ 32 → IsDue program seen timekeeper (record { time = time; actor = next.actor })
+    pub time-due : (time : ℕ) → next.time ≡ Some time → time < 2 ^ 32
+        → IsDue program seen timekeeper (record { time = time; actor = next.actor })
     time-due time some early =
         let goes = time-goes in
         let turn = goes.0 in
-        let first : take 1 (turns_from program (timed_room - length seen.history) (moment_in seen timekeeper)) ≡ turn ∷ [] =
-        ap (take 1) (sym (rest-is (timed_turns program) (turns_from program (timed_room - length seen.history) (moment_in seen timekeeper)) (length seen.history) is.followed.rest)) ∙ goes.1 in
+        let first : take 1 (turns_from program (timed_room - length seen.history) (moment_in seen timekeeper)) ≡ turn
+        ∷ [] =
+        ap (take 1) (sym (rest-is (timed_turns program) (turns_from program (timed_room - length seen.history)
+        (moment_in seen timekeeper)) (length seen.history) is.followed.rest)) ∙ goes.1 in
         let due = due-first program (timed_room - length seen.history) (moment_in seen timekeeper) turn first in
         let at : Some turn.time ≡ Some time = ap (λ (m : MadeTurn). m.time) goes.2 ∙ sym its.3.time ∙ some in
         let same : turn.time ≡ time = cc in
         let actor : turn.actor ≡ next.actor = ap (λ (m : MadeTurn). m.actor) goes.2 ∙ sym its.3.actor in
         record {
           room = omega (arith, due.0, is.followed.room_is);
-          first = due.1 ∙ ap (λ t. Some (record { time = t; actor = turn.actor })) same ∙ ap (λ a. Some (record { time = time; actor = a })) actor;
+          first = due.1 ∙ ap (λ t. Some (record { time = t; actor = turn.actor })) same
+              ∙ ap (λ a. Some (record { time = time; actor = a })) actor;
           within = early;
         }
 
 -- ---- the turn that was made
 
-module _ (seen : Seen) (timekeeper : Timekeeper) (is : IsAtTime seen timekeeper) (due : Due) (e : Event) (r : Reply) (next : next_turns seen.setting.program seen ≡ due_turn seen due ∷ []) (answer : (turn_in seen due.actor).answer ≡ Answered e r) (now : Seen) (after : now ≡ after_turn seen due.actor) (then_following : Timekeeper) (followed : IsFollowed seen.setting.program now then_following) where
+module _ (seen : Seen) (timekeeper : Timekeeper) (is : IsAtTime seen timekeeper) (due : Due) (e : Event) (r : Reply)
+    (next : next_turns seen.setting.program seen ≡ due_turn seen due ∷ [])
+    (answer : (turn_in seen due.actor).answer ≡ Answered e r) (now : Seen) (after : now ≡ after_turn seen due.actor)
+    (then_following : Timekeeper) (followed : IsFollowed seen.setting.program now then_following) where
   abbrev its : Program
   its = seen.setting.program
 
@@ -148,15 +167,18 @@ module _ (seen : Seen) (timekeeper : Timekeeper) (is : IsAtTime seen timekeeper)
       let rest : turns_in_time turn.turn.world (drop (n + 1) (timed_turns its)) ≡ turns_left (stage now) =
       ap (λ (w : World). turns_in_time w (drop (n + 1) (timed_turns its))) (sym world-now)
       ∙ ap (λ k. turns_in_time (world_of now) (drop k (timed_turns its))) (sym longer)
-      ∙ ap (λ (s : Setting). turns_in_time (world_of now) (drop (length now.history) (timed_turns s.program))) (sym same-setting)
+      ∙ ap (λ (s : Setting). turns_in_time (world_of now) (drop (length now.history) (timed_turns s.program)))
+      (sym same-setting)
       ∙ sym (time-left now then_following time-more) in
-      time-left seen timekeeper is ∙ ap (turns_in_time (world_of seen)) (next-some (timed_turns its) n turn next) ∙ ap (λ ts. turn_in_time (world_of seen) turn ∷ ts) rest
+      time-left seen timekeeper is ∙ ap (turns_in_time (world_of seen)) (next-some (timed_turns its) n turn next)
+      ∙ ap (λ ts. turn_in_time (world_of seen) turn ∷ ts) rest
 
   -- and it has a command, if it is the console's
   goes-on : (P : Type 0) → (turn_in seen due.actor).answer ≡ Ended → P
   goes-on P none = absurd (let wrong : Answered e r ≡ Ended = sym answer ∙ none in cc)
 
-  pub time-made : (turn : ATurn) → Reports turn (turn_in_time (world_of seen) (due_turn seen due)) → (made : MadeTurn) × MakesTurn (stage seen) (stage now) turn made
+  pub time-made : (turn : ATurn) → Reports turn (turn_in_time (world_of seen) (due_turn seen due))
+      → (made : MadeTurn) × MakesTurn (stage seen) (stage now) turn made
   time-made turn reports =
       let made = turn_in_time (world_of seen) (due_turn seen due) in (
         made,

@@ -7,22 +7,27 @@ use Rattle.lot_playback.proofs.AlarmFacts.{none-asleep}
 
 -- ---- turns from a moment on
 
-pub next-made : (program : Program) (room : ℕ) (m : Moment) (due : Due) → next_due program m ≡ Some due → turns_from program (suc room) m ≡ turn_due program m due ∷ turns_from program room (moment_after m (turn_due program m due))
+pub next-made : (program : Program) (room : ℕ) (m : Moment) (due : Due) → next_due program m ≡ Some due
+    → turns_from program (suc room) m ≡ turn_due program m due
+    ∷ turns_from program room (moment_after m (turn_due program m due))
 next-made program room m due is = ap (due_first program m (λ done. turns_from program room (moment_after m done))) is
 
 pub none-made : (program : Program) (room : ℕ) (m : Moment) → next_due program m ≡ None → turns_from program room m ≡ []
 none-made program zero m is = refl
 none-made program (suc room) m is = ap (due_first program m (λ done. turns_from program room (moment_after m done))) is
 
-pub moment-one_more : (m : Moment) (turns : List TimedTurn) (turn : TimedTurn) → moment_after_all m (turns ++ turn ∷ []) ≡ moment_after (moment_after_all m turns) turn
+pub moment-one_more : (m : Moment) (turns : List TimedTurn) (turn : TimedTurn)
+    → moment_after_all m (turns ++ turn ∷ []) ≡ moment_after (moment_after_all m turns) turn
 moment-one_more m [] turn = refl
 moment-one_more m (t ∷ turns) turn = moment-one_more (moment_after m t) turns turn
 
 -- a turn of the console takes the first command that is left
-commands-turn : (program : Program) (w : World) (actor : ℕ) → length (system_turn program w actor).world.commands ≡ (if actor == 0 then length w.commands - 1 else length w.commands)
+commands-turn : (program : Program) (w : World) (actor : ℕ) → length (system_turn program w actor).world.commands
+    ≡ (if actor == 0 then length w.commands - 1 else length w.commands)
 commands-turn program w zero = from w.commands refl
   where
-    from : (cs : List Command) → w.commands ≡ cs → length (console_turn program w cs).world.commands ≡ length w.commands - 1
+    from : (cs : List Command) → w.commands ≡ cs
+        → length (console_turn program w cs).world.commands ≡ length w.commands - 1
     from [] none = rw none refl
     from (c ∷ cs) some = let more : length w.commands ≡ suc (length cs) = ap length some in omega (arith, more)
 commands-turn program w (suc n) =
@@ -39,7 +44,8 @@ drop-one_more xs k = let e : k + 1 ≡ suc k = omega arith in ap (λ n. drop n x
     from (x ∷ xs) (suc k) = from xs k
 
 -- one turn's refusal more is counted
-pub refusals-more : (done : List TimedTurn) (turn : TimedTurn) (e : Event) (r : Reply) → turn.turn.answer ≡ Answered e r → total_of refusals_in (actor_turns (done ++ turn ∷ [])) ≡ total_of refusals_in (actor_turns done) + refusals_in r
+pub refusals-more : (done : List TimedTurn) (turn : TimedTurn) (e : Event) (r : Reply) → turn.turn.answer ≡ Answered e r
+    → total_of refusals_in (actor_turns (done ++ turn ∷ [])) ≡ total_of refusals_in (actor_turns done) + refusals_in r
 refusals-more done turn e r answered =
     let counted : ActorTurn → ℕ = λ t. count_in refusals_in t.answer in
     let beside : TimedTurn → ActorTurn = λ t. record { actor = t.actor; answer = t.turn.answer } in
@@ -48,7 +54,9 @@ refusals-more done turn e r answered =
     ∙ ap (λ (a : TurnAnswer). total_of refusals_in (actor_turns done) + count_in refusals_in a) answered
 
 -- a turn's answer is the machine's, in the state before it
-pub turn-answers : (program : Program) (w : World) (actor : ℕ) (e : Event) (r : Reply) → (system_turn program w actor).answer ≡ Answered e r → Answers w.state e r (system_turn program w actor).world.state
+pub turn-answers : (program : Program) (w : World) (actor : ℕ) (e : Event) (r : Reply)
+    → (system_turn program w actor).answer ≡ Answered e r
+    → Answers w.state e r (system_turn program w actor).world.state
 turn-answers program w actor e r is = by (actor == 0) is
   where
     event_or : TurnAnswer → Event
@@ -60,14 +68,19 @@ turn-answers program w actor e r is = by (actor == 0) is
     reply_or Ended = r
 
     made : (x : Event) → Answered x (step w.state x).reply ≡ Answered e r → Answers w.state e r (step w.state x).state
-    made x same = ap (step w.state) (sym (ap event_or same)) ∙ ap (λ y. record { state = (step w.state x).state; reply = y }) (ap reply_or same)
+    made x same = ap (step w.state) (sym (ap event_or same))
+        ∙ ap (λ y. record { state = (step w.state x).state; reply = y }) (ap reply_or same)
 
-    from : (cs : List Command) → (console_turn program w cs).answer ≡ Answered e r → Answers w.state e r (console_turn program w cs).world.state
+    from : (cs : List Command) → (console_turn program w cs).answer ≡ Answered e r
+        → Answers w.state e r (console_turn program w cs).world.state
     from [] same = cc
     from (c ∷ cs) same = made (event.Command (resolved w.tickets (next_name w) c)) same
 
-    by : (b : Bool) → (if b then console_turn program w w.commands else processor_turn w actor (actor_event program w actor)).answer ≡ Answered e r
-        → Answers w.state e r (if b then console_turn program w w.commands else processor_turn w actor (actor_event program w actor)).world.state
+    by : (b : Bool)
+        → (if b then console_turn program w w.commands else processor_turn w actor (actor_event program w actor)).answer
+        ≡ Answered e r
+        → Answers w.state e r (if b then console_turn program w w.commands
+        else processor_turn w actor (actor_event program w actor)).world.state
     by true same = from w.commands same
     by false same = made (actor_event program w actor) same
 
@@ -87,13 +100,16 @@ module _ (program : Program) (seen : Seen) (timekeeper : Timekeeper) (is : IsFol
   pub within-room : length seen.history ≤ timed_room
   within-room =
       let all = turns-few program timed_room (opening_moment program) in
-      let parts : length (timed_turns program) ≡ length done + length (turns_from program (timed_room - length seen.history) now) = ap length is.rest ∙ length-append done (turns_from program (timed_room - length seen.history) now) in
+      let parts : length (timed_turns program) ≡ length done
+      + length (turns_from program (timed_room - length seen.history) now) = ap length is.rest
+      ∙ length-append done (turns_from program (timed_room - length seen.history) now) in
       omega (arith, all, parts, done-length)
 
   -- what is made next follows what was made
   next-is : (rest : List TimedTurn) → timed_turns program ≡ done ++ rest → next_turns program seen ≡ take 1 rest
   next-is rest e =
-      let seam : drop (length seen.history) (done ++ rest) ≡ rest = ap (λ n. drop n (done ++ rest)) (sym done-length) ∙ drop-append_seam done rest in
+      let seam : drop (length seen.history) (done ++ rest) ≡ rest = ap (λ n. drop n (done ++ rest)) (sym done-length)
+      ∙ drop-append_seam done rest in
       ap (λ ts. take 1 (drop (length seen.history) ts)) e ∙ ap (take 1) seam
 
   -- no turn is next if there is no room
@@ -125,7 +141,8 @@ module _ (program : Program) (seen : Seen) (timekeeper : Timekeeper) (is : IsFol
     rest-is : timed_turns program ≡ done ++ (turn ∷ others)
     rest-is =
         let k : timed_room - length seen.history ≡ suc (timed_room - (length seen.history + 1)) = omega arith in
-        is.rest ∙ ap (λ n. done ++ turns_from program n now) k ∙ ap (λ ts. done ++ ts) (next-made program (timed_room - (length seen.history + 1)) now due first)
+        is.rest ∙ ap (λ n. done ++ turns_from program n now) k
+        ∙ ap (λ ts. done ++ ts) (next-made program (timed_room - (length seen.history + 1)) now due first)
 
     pub one-next : next_turns program seen ≡ turn ∷ []
     one-next = next-is (turn ∷ others) rest-is
@@ -141,39 +158,58 @@ module _ (program : Program) (seen : Seen) (timekeeper : Timekeeper) (is : IsFol
 
     done-more : turns_done program after ≡ done ++ turn ∷ []
     done-more =
-        let n : length after.history ≡ length (done ++ turn ∷ []) = omega (arith, longer, length-append done (turn ∷ []), done-length) in
-        ap (λ k. take k (timed_turns program)) n ∙ ap (take (length (done ++ turn ∷ []))) rest-more ∙ take-append_seam (done ++ turn ∷ []) others
+        let n : length after.history ≡ length (done ++ turn ∷ []) =
+        omega (arith, longer, length-append done (turn ∷ []), done-length) in
+        ap (λ k. take k (timed_turns program)) n ∙ ap (take (length (done ++ turn ∷ []))) rest-more
+        ∙ take-append_seam (done ++ turn ∷ []) others
 
     pub world-more : world_of after ≡ turn.turn.world
-    world-more = system_run-one_more seen.setting.program seen.history due.actor ∙ ap (λ (p : Program). (system_turn p (world_of seen) due.actor).world) is.program_is
+    world-more = system_run-one_more seen.setting.program seen.history due.actor
+        ∙ ap (λ (p : Program). (system_turn p (world_of seen) due.actor).world) is.program_is
 
-    times-more : drop (commands_made after) seen.setting.program.times ≡ (if due.actor == 0 then drop 1 now.times else now.times)
+    times-more : drop (commands_made after) seen.setting.program.times
+        ≡ (if due.actor == 0 then drop 1 now.times else now.times)
     times-more = from due.actor
       where
-        from : (a : ℕ) → drop (count_by (λ actor. actor == 0) (seen.history ++ a ∷ [])) seen.setting.program.times ≡ (if a == 0 then drop 1 (drop (commands_made seen) seen.setting.program.times) else drop (commands_made seen) seen.setting.program.times)
-        from zero = ap (λ n. drop n seen.setting.program.times) (count-console seen.history) ∙ drop-one_more seen.setting.program.times (commands_made seen)
+        from : (a : ℕ) → drop (count_by (λ actor. actor == 0) (seen.history ++ a ∷ [])) seen.setting.program.times
+            ≡ (if a == 0 then drop 1 (drop (commands_made seen) seen.setting.program.times)
+            else drop (commands_made seen) seen.setting.program.times)
+        from zero = ap (λ n. drop n seen.setting.program.times) (count-console seen.history)
+            ∙ drop-one_more seen.setting.program.times (commands_made seen)
         from (suc a) =
             let no : (suc a == 0) ≡ false = ne_eqb (suc a) 0 (λ e. omega arith) in
             rw no (ap (λ n. drop n seen.setting.program.times) (count-processor seen.history (suc a) (omega arith)))
 
     left-more : length (world_of after).commands ≡ length (drop (commands_made after) seen.setting.program.times)
-    left-more = ap (λ (w : World). length w.commands) world-more ∙ commands-turn program (world_of seen) due.actor ∙ from (due.actor == 0) ∙ ap length (sym times-more)
+    left-more = ap (λ (w : World). length w.commands) world-more ∙ commands-turn program (world_of seen) due.actor
+        ∙ from (due.actor == 0) ∙ ap length (sym times-more)
       where
-        from : (b : Bool) → (if b then length (world_of seen).commands - 1 else length (world_of seen).commands) ≡ length (if b then drop 1 now.times else now.times)
+        from : (b : Bool) → (if b then length (world_of seen).commands - 1 else length (world_of seen).commands)
+            ≡ length (if b then drop 1 now.times else now.times)
         from true = omega (arith, is.left, length-drop 1 now.times)
         from false = is.left
 
-    module _ (e : Event) (r : Reply) (answer : (system_turn seen.setting.program (world_of seen) due.actor).answer ≡ Answered e r) (next : Timekeeper) (time : next.clocks.time ≡ due.time) (clocks : next.clocks.processors.items ≡ clocks_after (world_of after).state timekeeper.clocks.processors.items (record { time = due.time; actor = due.actor }) (is_idle_draw (Answered e r)))
-        (alarms : alarms_in next.alarms.threads.items ≡ alarms_after now due.time due.actor) (refused : next.has_refused ≡ (timekeeper.has_refused || is_refusal (Answered e r))) where
+    module _ (e : Event) (r : Reply)
+        (answer : (system_turn seen.setting.program (world_of seen) due.actor).answer ≡ Answered e r)
+        (next : Timekeeper) (time : next.clocks.time ≡ due.time)
+        (clocks : next.clocks.processors.items ≡ clocks_after (world_of after).state timekeeper.clocks.processors.items
+        (record { time = due.time; actor = due.actor }) (is_idle_draw (Answered e r)))
+        (alarms : alarms_in next.alarms.threads.items ≡ alarms_after now due.time due.actor)
+        (refused : next.has_refused ≡ (timekeeper.has_refused || is_refusal (Answered e r))) where
       pub answer-is : turn.turn.answer ≡ Answered e r
       answer-is = sym (ap (λ (p : Program). (system_turn p (world_of seen) due.actor).answer) is.program_is) ∙ answer
 
       moment-more : moment_in after next ≡ moment_after now turn
       moment-more =
-          let clocks-are : next.clocks.processors.items ≡ clocks_after turn.turn.world.state timekeeper.clocks.processors.items (record { time = due.time; actor = due.actor }) (is_idle_draw turn.turn.answer) =
-          clocks ∙ ap (λ (w : World). clocks_after w.state timekeeper.clocks.processors.items (record { time = due.time; actor = due.actor }) (is_idle_draw (Answered e r))) world-more
-          ∙ ap (λ (a : TurnAnswer). clocks_after turn.turn.world.state timekeeper.clocks.processors.items (record { time = due.time; actor = due.actor }) (is_idle_draw a)) (sym answer-is) in
-          let refused-are : next.has_refused ≡ (timekeeper.has_refused || is_refusal turn.turn.answer) = refused ∙ ap (λ (a : TurnAnswer). timekeeper.has_refused || is_refusal a) (sym answer-is) in
+          let clocks-are : next.clocks.processors.items
+          ≡ clocks_after turn.turn.world.state timekeeper.clocks.processors.items
+          (record { time = due.time; actor = due.actor }) (is_idle_draw turn.turn.answer) =
+          clocks ∙ ap (λ (w : World). clocks_after w.state timekeeper.clocks.processors.items
+          (record { time = due.time; actor = due.actor }) (is_idle_draw (Answered e r))) world-more
+          ∙ ap (λ (a : TurnAnswer). clocks_after turn.turn.world.state timekeeper.clocks.processors.items
+          (record { time = due.time; actor = due.actor }) (is_idle_draw a)) (sym answer-is) in
+          let refused-are : next.has_refused ≡ (timekeeper.has_refused || is_refusal turn.turn.answer) = refused
+          ∙ ap (λ (a : TurnAnswer). timekeeper.has_refused || is_refusal a) (sym answer-is) in
           λ i. record { world = world-more i; time = time i; clocks = clocks-are i; times = times-more i; alarms = alarms i; has_refused = refused-are i }
 
       -- the system with this turn is followed
@@ -181,11 +217,15 @@ module _ (program : Program) (seen : Seen) (timekeeper : Timekeeper) (is : IsFol
       sleepers-more t time there =
           let grown : length (world_of seen).state.records ≤ length (world_of after).state.records =
           omega (arith, turn-grows program (world_of seen) due.actor, ap (λ (w : World). length w.state.records) world-more) in
-          let before : AreLater (length (world_of after).state.records) 0 now.alarms = λ u at was. let named = is.sleepers u at was in (named.0, omega (arith, named.1, grown), omega arith) in
-          let later = alarms-later now (length (world_of after).state.records) 0 due.time due.actor (omega arith) before grown t time (ap (λ (f : ℕ → Option ℕ). f t) (sym alarms) ∙ there) in
+          let before : AreLater (length (world_of after).state.records) 0 now.alarms = λ u at was. let named =
+          is.sleepers u at was in (named.0, omega (arith, named.1, grown), omega arith) in
+          let later = alarms-later now (length (world_of after).state.records) 0 due.time due.actor
+          (omega arith) before grown t time (ap (λ (f : ℕ → Option ℕ). f t) (sym alarms) ∙ there) in
           (later.0, omega (arith, later.1))
 
-      pub followed-more : HasFollowed (done ++ turn ∷ []) (length seen.history + 1) next → HasDues (opening program.limits) (done ++ turn ∷ []) (length seen.history + 1) (world_of after).state next → HasRoomFor program next → AreAlarms program.limits.processors next.alarms → IsFollowed program after next
+      pub followed-more : HasFollowed (done ++ turn ∷ []) (length seen.history + 1) next
+          → HasDues (opening program.limits) (done ++ turn ∷ []) (length seen.history + 1) (world_of after).state next
+          → HasRoomFor program next → AreAlarms program.limits.processors next.alarms → IsFollowed program after next
       followed-more followed dues fits sleeping = record {
         program_is = is.program_is;
         room_is = is.room_is;
@@ -193,13 +233,20 @@ module _ (program : Program) (seen : Seen) (timekeeper : Timekeeper) (is : IsFol
         bounds = is.bounds;
         sleeping = sleeping;
         sleepers = sleepers-more;
-        history = ap (λ h. h ++ due.actor ∷ []) is.history ∙ sym (map-append (λ (t : TimedTurn). t.actor) done (turn ∷ [])) ∙ ap (map (λ (t : TimedTurn). t.actor)) (sym done-more);
-        moment = moment-more ∙ ap (λ m. moment_after m turn) is.moment ∙ sym (moment-one_more (opening_moment program) done turn) ∙ ap (moment_after_all (opening_moment program)) (sym done-more);
-        rest = rest-more ∙ ap (λ ts. ts ++ others) (sym done-more) ∙ ap (λ n. turns_done program after ++ turns_from program (timed_room - n) (moment_after now turn)) (sym longer) ∙ ap (λ m. turns_done program after ++ turns_from program (timed_room - length after.history) m) (sym moment-more);
+        history = ap (λ h. h ++ due.actor ∷ []) is.history ∙ sym (map-append (λ (t : TimedTurn). t.actor) done
+            (turn ∷ [])) ∙ ap (map (λ (t : TimedTurn). t.actor)) (sym done-more);
+        moment = moment-more ∙ ap (λ m. moment_after m turn) is.moment ∙ sym (moment-one_more
+            (opening_moment program) done turn) ∙ ap (moment_after_all (opening_moment program)) (sym done-more);
+        rest = rest-more ∙ ap (λ ts. ts ++ others) (sym done-more) ∙ ap (λ n. turns_done program after
+            ++ turns_from program (timed_room - n) (moment_after now turn)) (sym longer) ∙ ap (λ m.
+            turns_done program after ++ turns_from program (timed_room - length after.history) m) (sym moment-more);
         left = left-more;
         room = fits;
-        followed = subst (λ ts. HasFollowed ts (length after.history) next) (sym done-more) (subst (λ n. HasFollowed (done ++ turn ∷ []) n next) (sym longer) followed);
-        dues = subst (λ ts. HasDues (opening program.limits) ts (length after.history) (world_of after).state next) (sym done-more) (subst (λ n. HasDues (opening program.limits) (done ++ turn ∷ []) n (world_of after).state next) (sym longer) dues);
+        followed = subst (λ ts. HasFollowed ts (length after.history) next) (sym done-more)
+            (subst (λ n. HasFollowed (done ++ turn ∷ []) n next) (sym longer) followed);
+        dues = subst (λ ts. HasDues (opening program.limits) ts (length after.history) (world_of after).state next)
+            (sym done-more) (subst (λ n.
+            HasDues (opening program.limits) (done ++ turn ∷ []) n (world_of after).state next) (sym longer) dues);
       }
 
 -- ---- before the first turn
@@ -213,12 +260,17 @@ unfolding timed_room
 room-few = omega arith
 
 -- a system that was opened has made none of the program's turns
-pub opened-followed : (program : Program) (opened_with : Seen) (timekeeper : Timekeeper) → IsWithinBounds program.limits → length program.times ≡ length program.commands → opened_with.setting.program ≡ program → IsOpened program opened_with timekeeper
-    → IsFollowed program (record { setting = record { program = program; room = 16000000; timer = true }; history = [] }) timekeeper
+pub opened-followed : (program : Program) (opened_with : Seen) (timekeeper : Timekeeper) → IsWithinBounds program.limits
+    → length program.times ≡ length program.commands → opened_with.setting.program ≡ program
+    → IsOpened program opened_with timekeeper
+    → IsFollowed program
+    (record { setting = record { program = program; room = 16000000; timer = true }; history = [] }) timekeeper
 opened-followed program opened_with timekeeper bounds as_many same is =
     let seen : Seen = record { setting = record { program = program; room = 16000000; timer = true }; history = [] } in
-    let none_asleep : alarms_in timekeeper.alarms.threads.items ≡ (λ (t : ℕ). None) = ap alarms_in is.alarms ∙ none-asleep program.limits.threads in
-    let moment : moment_in seen timekeeper ≡ opening_moment program = λ i. record { world = world_of seen; time = is.time i; clocks = is.clocks i; times = program.times; alarms = none_asleep i; has_refused = is.refused i } in
+    let none_asleep : alarms_in timekeeper.alarms.threads.items ≡ (λ (t : ℕ). None) = ap alarms_in is.alarms
+    ∙ none-asleep program.limits.threads in
+    let moment : moment_in seen timekeeper ≡ opening_moment program = λ i.
+    record { world = world_of seen; time = is.time i; clocks = is.clocks i; times = program.times; alarms = none_asleep i; has_refused = is.refused i } in
     let none : timed_room - 0 ≡ timed_room = omega arith in
     record {
       program_is = refl;
@@ -226,10 +278,12 @@ opened-followed program opened_with timekeeper bounds as_many same is =
       timer_is = refl;
       bounds = bounds;
       sleeping = is.sleeping;
-      sleepers = λ t at there. let wrong : None ≡ Some at = ap (λ (f : ℕ → Option ℕ). f t) (sym none_asleep) ∙ there in cc;
+      sleepers = λ t at there. let wrong : None ≡ Some at = ap (λ (f : ℕ → Option ℕ). f t) (sym none_asleep) ∙ there in
+          cc;
       history = refl;
       moment = moment;
-      rest = ap (λ n. turns_from program n (opening_moment program)) (sym none) ∙ ap (turns_from program (timed_room - 0)) (sym moment);
+      rest = ap (λ n. turns_from program n (opening_moment program)) (sym none)
+          ∙ ap (turns_from program (timed_room - 0)) (sym moment);
       left = sym as_many;
       room = is.room same;
       followed = is.followed;
@@ -237,7 +291,9 @@ opened-followed program opened_with timekeeper bounds as_many same is =
     }
 
 -- a search before a turn leaves the records those of the turns made
-pub looked-followed : (program : Program) (seen : Seen) (timekeeper : Timekeeper) (above : FoundNodes) → HasLayoutFor program above → IsFollowed program seen timekeeper → IsFollowed program seen (record timekeeper { currencies = record timekeeper.currencies { above = above } })
+pub looked-followed : (program : Program) (seen : Seen) (timekeeper : Timekeeper) (above : FoundNodes)
+    → HasLayoutFor program above → IsFollowed program seen timekeeper
+    → IsFollowed program seen (record timekeeper { currencies = record timekeeper.currencies { above = above } })
 looked-followed program seen timekeeper above layout is = record {
   program_is = is.program_is;
   room_is = is.room_is;

@@ -6,31 +6,40 @@ use Rattle.lot_machine.proofs.StepChanges.{IsConsole}
 -- there are no fewer currencies, and the reply tells each new one
 record Tells (s : State) (next : Step) : Type 0 where
   more : length s.currencies ≤ length next.state.currencies
-  new : (e : Event) (c : ℕ) → length s.currencies ≤ c → c < length next.state.currencies → makes_currency c (Answered e next.reply) ≡ true
+  new : (e : Event) (c : ℕ) → length s.currencies ≤ c → c < length next.state.currencies
+      → makes_currency c (Answered e next.reply) ≡ true
 
 same-tells : (s : State) (next : Step) → length next.state.currencies ≡ length s.currencies → Tells s next
-same-tells s next same = record { more = omega (arith, same); new = λ e c above below. absurd (omega (arith, same, above, below)) }
+same-tells s next same =
+    record { more = omega (arith, same); new = λ e c above below. absurd (omega (arith, same, above, below)) }
 
 unless-tells : (s : State) (o : Option Refusal) (next : Step) → Tells s next → Tells s (unless_refused s o next)
 unless-tells s None next tells = tells
 unless-tells s (Some why) next tells = same-tells s (unless_refused s (Some why) next) refl
 
-made-tells : (s : State) (name : List ℕ) (free : List ℕ) → free_currencies s ≡ free → Tells s (command_effect s (MakeCurrency name))
+made-tells : (s : State) (name : List ℕ) (free : List ℕ) → free_currencies s ≡ free
+    → Tells s (command_effect s (MakeCurrency name))
 made-tells s name [] is = record {
   more = omega (arith, long);
-  new = λ e c above below. ap (λ places. next_place s.currencies places == c) is ∙ eq-eqb (length s.currencies) c (omega (arith, long, above, below));
+  new = λ e c above below. ap (λ places. next_place s.currencies places == c) is
+      ∙ eq-eqb (length s.currencies) c (omega (arith, long, above, below));
 }
   where
     long : length (placed s.currencies (free_currencies s) (Some name)) ≡ length s.currencies + 1
-    long = ap (λ places. length (placed s.currencies places (Some name))) is ∙ length-append s.currencies (Some name ∷ [])
+    long = ap (λ places. length (placed s.currencies places (Some name))) is
+        ∙ length-append s.currencies (Some name ∷ [])
 made-tells s name (place ∷ free) is =
-    same-tells s (command_effect s (MakeCurrency name)) (ap (λ places. length (placed s.currencies places (Some name))) is ∙ length-set s.currencies place (Some name))
+    same-tells s (command_effect s (MakeCurrency name))
+    (ap (λ places. length (placed s.currencies places (Some name))) is ∙ length-set s.currencies place (Some name))
 
 command-tells : (s : State) (c : Command) → Tells s (command_step s c)
-command-tells s (MakeCurrency name) = unless-tells s _ (command_effect s (MakeCurrency name)) (made-tells s name (free_currencies s) refl)
+command-tells s (MakeCurrency name) =
+    unless-tells s _ (command_effect s (MakeCurrency name)) (made-tells s name (free_currencies s) refl)
 command-tells s (RemoveCurrency currency) =
-    unless-tells s _ (command_effect s (RemoveCurrency currency)) (same-tells s (command_effect s (RemoveCurrency currency)) (length-set s.currencies (currency_or_base s currency) None))
-command-tells s other = unless-tells s (command_refusal s other) (command_effect s other) (same-tells s (command_effect s other) refl)
+    unless-tells s _ (command_effect s (RemoveCurrency currency)) (same-tells s
+    (command_effect s (RemoveCurrency currency)) (length-set s.currencies (currency_or_base s currency) None))
+command-tells s other =
+    unless-tells s (command_refusal s other) (command_effect s other) (same-tells s (command_effect s other) refl)
 
 -- only the console changes the currencies
 change-currencies : (by : By) (s : State) → ¬ IsConsole by → Keeps by s (λ a. a.currencies ≡ s.currencies)
@@ -40,7 +49,8 @@ change-currencies by s other a c allowed same = same
 
 other-tells : (s : State) (e : Event) → ¬ IsConsole (by_event s e) → Tells s (step s e)
 other-tells s e other =
-    same-tells s (step s e) (ap length (kept (λ a. a.currencies ≡ s.currencies) (change-currencies (by_event s e) s other) (step-leads s e) refl))
+    same-tells s (step s e) (ap length
+    (kept (λ a. a.currencies ≡ s.currencies) (change-currencies (by_event s e) s other) (step-leads s e) refl))
 
 step-tells : (s : State) (e : Event) → Tells s (step s e)
 step-tells s (event.Command c) = command-tells s c
@@ -59,7 +69,8 @@ module _ (s : State) (e : Event) (r : Reply) (next : State) (answers : Answers s
   pub count-grows : (sharers : Sharers) → count_in sharers s ≤ count_in sharers next
   count-grows Threads =
       let (more, records, threads) = (step-grown s e).1 in
-      let led : length (step s e).state.records ≡ length next.records = ap (λ (x : Step). length x.state.records) answers in
+      let led : length (step s e).state.records ≡ length next.records =
+      ap (λ (x : Step). length x.state.records) answers in
       omega (arith, records, led)
   count-grows Currencies = omega (arith, tells.more)
 

@@ -55,7 +55,8 @@ abbrev stage : Seen → ℕ → Stage
 stage seen place = record { seen = seen; made = place }
 
 -- they are those of the actors from the place on
-pub place-left : (seen : Seen) (place : ℕ) → IsAtPlace seen place → turns_left (stage seen place) ≡ scheduled_turns seen.setting.program (world_of seen) (drop place seen.setting.program.schedule)
+pub place-left : (seen : Seen) (place : ℕ) → IsAtPlace seen place → turns_left (stage seen place)
+    ≡ scheduled_turns seen.setting.program (world_of seen) (drop place seen.setting.program.schedule)
 place-left seen place is =
     let program = seen.setting.program in
     ap (λ (d : Option ℕ). drop place (turns_by program d)) is.untimed
@@ -72,7 +73,8 @@ module _ (seen : Seen) (place : ℕ) (is : IsAtPlace seen place) where
   pub place-none : length program.schedule ≤ place → turns_left (stage seen place) ≡ []
   place-none all = left ∙ ap (scheduled_turns program (world_of seen)) (drop-none program.schedule place all)
 
-  pub place-next : (next : NextTurn) → place < length program.schedule → next.time ≡ None → next.actor ≡ get_or program.schedule place 0 → IsNext (stage seen place) next
+  pub place-next : (next : NextTurn) → place < length program.schedule → next.time ≡ None
+      → next.actor ≡ get_or program.schedule place 0 → IsNext (stage seen place) next
   place-next next below time actor =
       let a = get_or program.schedule place 0 in
       let made = scheduled_turn program (world_of seen) a in (
@@ -85,7 +87,8 @@ module _ (seen : Seen) (place : ℕ) (is : IsAtPlace seen place) where
   -- if none is left, the schedule is played
   pub place-end : turns_left (stage seen place) ≡ [] → HasPlayed program program.schedule seen
   place-end none =
-      let all : drop place program.schedule ≡ [] = none-scheduled program (world_of seen) (drop place program.schedule) (sym left ∙ none) in
+      let all : drop place program.schedule ≡ [] =
+      none-scheduled program (world_of seen) (drop place program.schedule) (sym left ∙ none) in
       subst (λ xs. HasPlayed program xs seen) (from program.schedule place all) is.played
     where
       from : (xs : List ℕ) (n : ℕ) → drop n xs ≡ [] → take n xs ≡ xs
@@ -101,7 +104,8 @@ module _ (seen : Seen) (place : ℕ) (is : IsAtPlace seen place) where
     pub place-goes : (rest : List ℕ) × (drop place program.schedule ≡ next.actor ∷ rest)
     place-goes = from (drop place program.schedule) refl (sym left ∙ its.2)
       where
-        from : (xs : List ℕ) → drop place program.schedule ≡ xs → scheduled_turns program (world_of seen) xs ≡ its.0 ∷ its.1 → (rest : List ℕ) × (drop place program.schedule ≡ next.actor ∷ rest)
+        from : (xs : List ℕ) → drop place program.schedule ≡ xs → scheduled_turns program (world_of seen) xs ≡ its.0
+            ∷ its.1 → (rest : List ℕ) × (drop place program.schedule ≡ next.actor ∷ rest)
         from [] at wrong = absurd (let e : [] ≡ its.0 ∷ its.1 = wrong in cc)
         from (x ∷ xs) at same =
             let first : scheduled_turn program (world_of seen) x ≡ its.0 = cc in
@@ -112,7 +116,8 @@ module _ (seen : Seen) (place : ℕ) (is : IsAtPlace seen place) where
     place-below = drop-below program.schedule place next.actor place-goes.0 place-goes.1
 
     pub place-actor : next.actor ≤ program.limits.processors
-    place-actor = drop-all (λ actor. actor ≤ program.limits.processors) program.schedule place next.actor place-goes.0 is.legal.actors place-goes.1
+    place-actor = drop-all (λ actor. actor ≤ program.limits.processors) program.schedule place next.actor place-goes.0
+        is.legal.actors place-goes.1
 
     pub place-room : length seen.history < seen.setting.room
     place-room = omega (arith, is.played.bounded, length-take place program.schedule, place-below, is.room)
@@ -122,7 +127,9 @@ module _ (seen : Seen) (place : ℕ) (is : IsAtPlace seen place) where
       pub place-more : IsAtPlace now (place + 1)
       place-more =
           let same = sym played.setting in
-          let more = subst (λ xs. HasPlayed program xs now) (sym (take-next program.schedule place next.actor place-goes.0 place-goes.1)) (played-more program (take place program.schedule) seen is.played next.actor now played) in
+          let more = subst (λ xs. HasPlayed program xs now)
+          (sym (take-next program.schedule place next.actor place-goes.0 place-goes.1))
+          (played-more program (take place program.schedule) seen is.played next.actor now played) in
           record {
             legal = subst (λ (s : Setting). IsProgram s.program) same is.legal;
             untimed = ap (λ (s : Setting). s.program.duration) played.setting ∙ is.untimed;
@@ -130,20 +137,25 @@ module _ (seen : Seen) (place : ℕ) (is : IsAtPlace seen place) where
             played = subst (λ (s : Setting). HasPlayed s.program (take (place + 1) s.program.schedule) now) same more;
           }
 
-      left-next : turns_left (stage seen place) ≡ scheduled_turn program (world_of seen) next.actor ∷ turns_left (stage now (place + 1))
+      left-next : turns_left (stage seen place) ≡ scheduled_turn program (world_of seen) next.actor
+          ∷ turns_left (stage now (place + 1))
       left-next =
           let goes = place-goes in
           let turn = turn_in seen next.actor in
           let rest : scheduled_turns program turn.world goes.0 ≡ turns_left (stage now (place + 1)) =
-          ap (λ xs. scheduled_turns program turn.world xs) (sym (drop-after program.schedule place next.actor goes.0 goes.1))
+          ap (λ xs. scheduled_turns program turn.world xs)
+          (sym (drop-after program.schedule place next.actor goes.0 goes.1))
           ∙ ap (λ (w : World). scheduled_turns program w (drop (place + 1) program.schedule)) (sym played.world)
-          ∙ ap (λ (s : Setting). scheduled_turns s.program (world_of now) (drop (place + 1) s.program.schedule)) (sym played.setting)
+          ∙ ap (λ (s : Setting). scheduled_turns s.program (world_of now) (drop (place + 1) s.program.schedule))
+          (sym played.setting)
           ∙ sym (place-left now (place + 1) place-more) in
-          left ∙ ap (scheduled_turns program (world_of seen)) goes.1 ∙ ap (λ ts. scheduled_turn program (world_of seen) next.actor ∷ ts) rest
+          left ∙ ap (scheduled_turns program (world_of seen)) goes.1
+          ∙ ap (λ ts. scheduled_turn program (world_of seen) next.actor ∷ ts) rest
 
       -- and the turn is made
       pub place-made : (turn : ATurn) → Reports turn (scheduled_turn program (world_of seen) next.actor)
-          → turns_made program now.history ≡ turns_made program seen.history ++ counted_turn next.actor (turn_in seen next.actor).answer
+          → turns_made program now.history ≡ turns_made program seen.history
+          ++ counted_turn next.actor (turn_in seen next.actor).answer
           → (made : MadeTurn) × MakesTurn (stage seen place) (stage now (place + 1)) turn made
       place-made turn reports counted =
           let made = scheduled_turn program (world_of seen) next.actor in (

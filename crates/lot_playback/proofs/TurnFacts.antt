@@ -2,7 +2,9 @@
 use Rattle.lot_playback.proofs.Common.{List, Moment, Program, TimedTurn, World, drop, moment_after, moment_after_all, refl, scheduled_turns, suc, system_after, system_turn, take, turns_in_time, zero, ℕ, [], ◌∷◌, ◌≡◌}
 
 -- the turns of a schedule from a place on
-pub drop-scheduled : (program : Program) (w : World) (actors : List ℕ) (n : ℕ) → drop n (scheduled_turns program w actors) ≡ scheduled_turns program (system_after program w (take n actors)) (drop n actors)
+pub drop-scheduled : (program : Program) (w : World) (actors : List ℕ) (n : ℕ)
+    → drop n (scheduled_turns program w actors) ≡ scheduled_turns program (system_after program w (take n actors))
+    (drop n actors)
 drop-scheduled program w [] zero = refl
 drop-scheduled program w [] (suc n) = refl
 drop-scheduled program w (a ∷ actors) zero = refl
@@ -14,19 +16,22 @@ world_after_timed w [] = w
 world_after_timed w (done ∷ others) = world_after_timed done.turn.world others
 
 -- turns in the order of time from a place on
-pub drop-timed : (w : World) (turns : List TimedTurn) (n : ℕ) → drop n (turns_in_time w turns) ≡ turns_in_time (world_after_timed w (take n turns)) (drop n turns)
+pub drop-timed : (w : World) (turns : List TimedTurn) (n : ℕ)
+    → drop n (turns_in_time w turns) ≡ turns_in_time (world_after_timed w (take n turns)) (drop n turns)
 drop-timed w [] zero = refl
 drop-timed w [] (suc n) = refl
 drop-timed w (t ∷ turns) zero = refl
 drop-timed w (t ∷ turns) (suc n) = drop-timed t.turn.world turns n
 
 -- the world of the moment after turns is the one that they leave
-pub moment-world : (m : Moment) (turns : List TimedTurn) → (moment_after_all m turns).world ≡ world_after_timed m.world turns
+pub moment-world : (m : Moment) (turns : List TimedTurn)
+    → (moment_after_all m turns).world ≡ world_after_timed m.world turns
 moment-world m [] = refl
 moment-world m (t ∷ turns) = moment-world (moment_after m t) turns
 
 -- no turn is made of none
-pub none-scheduled : (program : Program) (w : World) (actors : List ℕ) → scheduled_turns program w actors ≡ [] → actors ≡ []
+pub none-scheduled : (program : Program) (w : World) (actors : List ℕ) → scheduled_turns program w actors ≡ []
+    → actors ≡ []
 none-scheduled program w [] none = refl
 none-scheduled program w (a ∷ actors) none = cc
 

@@ -5,7 +5,8 @@ use Rattle.lot_playback.proofs.Common.{Bool, Currencies, Funding, IsSound, IsWit
 -- ---- reached states
 
 -- the state after any turns is sound
-pub run-sound : (program : Program) (actors : List ℕ) → IsWithinBounds program.limits → IsSound (system_run program actors).state
+pub run-sound : (program : Program) (actors : List ℕ) → IsWithinBounds program.limits
+    → IsSound (system_run program actors).state
 run-sound program actors bounds = order-sound (system_run program actors).state (run-in-order program actors bounds)
 
 -- ---- threads
@@ -15,7 +16,8 @@ numbered : {A : Type 0} (xs : List A) (n : ℕ) (x : A) → at_number xs n ≡ S
 numbered {A = A} xs zero x is = cc
 numbered {A = A} xs (suc i) x is = from (slice_get_cases xs i).1
   where
-    from : ((y : A) × (i < length xs) × (slice_get xs i ≡ Some y) × (get_or xs i y ≡ y)) ⊎ ((length xs ≤ i) × (slice_get xs i ≡ None)) → (1 ≤ suc i) × (suc i ≤ length xs)
+    from : ((y : A) × (i < length xs) × (slice_get xs i ≡ Some y) × (get_or xs i y ≡ y))
+        ⊎ ((length xs ≤ i) × (slice_get xs i ≡ None)) → (1 ≤ suc i) × (suc i ≤ length xs)
     from (inl (y, below, here, same)) = (omega arith, omega (arith, below))
     from (inr (past, none)) = absurd (let e : None ≡ Some x = sym none ∙ sym (at_number-suc xs i) ∙ is in cc)
 
@@ -43,10 +45,13 @@ part-within s t = by (is_live (live_of s) t) refl
     by false is = omega arith
     by true is =
         let (low, high) = live-there s t is in
-        let place : get_or (numbers s.records) (t - 1) 0 ≡ t = get_or-range_with_len 1 (length s.records) (t - 1) 0 (omega (arith, low, high)) ∙ omega (arith, low) in
+        let place : get_or (numbers s.records) (t - 1) 0 ≡ t =
+        get_or-range_with_len 1 (length s.records) (t - 1) 0 (omega (arith, low, high)) ∙ omega (arith, low) in
         let long : length (numbers s.records) ≡ length s.records = length-range_with_len 1 (length s.records) in
-        let part : all (get_or (numbers s.records) (t - 1) 0) ≤ sum_by all (numbers s.records) = get_or-le-sum_by all (numbers s.records) (t - 1) 0 (omega (arith, low, high, long)) in
-        let own : all (get_or (numbers s.records) (t - 1) 0) ≡ value_of s t = ap all place ∙ ap (λ b. cond b (value_of s t) 0) is in
+        let part : all (get_or (numbers s.records) (t - 1) 0) ≤ sum_by all (numbers s.records) =
+        get_or-le-sum_by all (numbers s.records) (t - 1) 0 (omega (arith, low, high, long)) in
+        let own : all (get_or (numbers s.records) (t - 1) 0) ≡ value_of s t = ap all place
+        ∙ ap (λ b. cond b (value_of s t) 0) is in
         omega (arith, part, own, whole)
 
 part-none : (s : State) (t : ℕ) → length s.records < t → live_part s t (value_of s t) ≡ 0
@@ -59,10 +64,13 @@ part-none s t past = by (is_live (live_of s) t) refl
 -- ---- currencies
 
 -- a sum over the tickets that pass a test, if none does
-passing-none : (test : Ticket → Bool) (worth : Ticket → ℕ) (tickets : List (Option Ticket)) → ((i : ℕ) (t : Ticket) → slice_get tickets i ≡ Some (Some t) → test t ≡ false) → sum_by worth (filter test (filter_map (λ o. o) tickets)) ≡ 0
+passing-none : (test : Ticket → Bool) (worth : Ticket → ℕ) (tickets : List (Option Ticket))
+    → ((i : ℕ) (t : Ticket) → slice_get tickets i ≡ Some (Some t) → test t ≡ false)
+    → sum_by worth (filter test (filter_map (λ o. o) tickets)) ≡ 0
 passing-none test worth [] none = refl
 passing-none test worth (None ∷ tickets) none = passing-none test worth tickets (λ i t here. none (suc i) t here)
-passing-none test worth (Some t ∷ tickets) none = rw (none zero t refl) (passing-none test worth tickets (λ i u here. none (suc i) u here))
+passing-none test worth (Some t ∷ tickets) none =
+    rw (none zero t refl) (passing-none test worth tickets (λ i u here. none (suc i) u here))
 
 -- no ticket funds what doesn't exist
 worth-none : (s : State) (c : ℕ) → IsSound s → length s.currencies ≤ c → worth_of s c ≡ 0
@@ -74,7 +82,8 @@ worth-none s c sound past = passing-none (λ t. is_currency c t.target) _ s.tick
     outside : ¬ (slice_get f.currencies c ≡ Some true)
     outside is = from (slice_get_cases f.currencies c).1
       where
-        from : ((y : Bool) × (c < length f.currencies) × (slice_get f.currencies c ≡ Some y) × (get_or f.currencies c y ≡ y)) ⊎ ((length f.currencies ≤ c) × (slice_get f.currencies c ≡ None)) → ⊥
+        from : ((y : Bool) × (c < length f.currencies) × (slice_get f.currencies c ≡ Some y)
+            × (get_or f.currencies c y ≡ y)) ⊎ ((length f.currencies ≤ c) × (slice_get f.currencies c ≡ None)) → ⊥
         from (inl (y, below, here, same)) = omega (arith, below, past, length-map s.currencies is_some)
         from (inr (out, none)) = let e : None ≡ Some true = sym none ∙ is in cc
 
@@ -85,15 +94,18 @@ worth-none s c sound past = passing-none (λ t. is_currency c t.target) _ s.tick
         by false is = refl
         by true is =
             let at : ticket_in s.tickets (suc i) ≡ Some t = ticket_in-suc s.tickets i ∙ ap option_flatten here in
-            absurd (outside (sound.funds_there (suc i) c (target-of f (suc i) t at ∙ ap Some (is_currency-is c t.target is))))
+            absurd
+            (outside (sound.funds_there (suc i) c (target-of f (suc i) t at ∙ ap Some (is_currency-is c t.target is))))
 
 -- ---- both
 
 pub value-within : (sharers : Sharers) (s : State) → IsSound s → (n : ℕ) → value_in sharers s n ≤ whole_in sharers s
 value-within Threads s sound t = part-within s t
-value-within Currencies s sound c = currency-bounded (funding_of s) sound.no_cycle sound.funds_there s.limits.unit (live_of s) c
+value-within Currencies s sound c =
+    currency-bounded (funding_of s) sound.no_cycle sound.funds_there s.limits.unit (live_of s) c
 
-pub value-none : (sharers : Sharers) (s : State) → IsSound s → (n : ℕ) → count_in sharers s < n → value_in sharers s n ≡ 0
+pub value-none : (sharers : Sharers) (s : State) → IsSound s → (n : ℕ) → count_in sharers s < n
+    → value_in sharers s n ≡ 0
 value-none Threads s sound t past = part-none s t past
 value-none Currencies s sound c past = worth-none s c sound (omega (arith, past))
 

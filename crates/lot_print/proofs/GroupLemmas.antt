@@ -9,7 +9,8 @@ groups_after-first s zero x (y ∷ ys) = let less : suc s - 1 ≡ s = omega arit
 groups_after-first s (suc room) x (y ∷ ys) = ap (with_first x) (groups_after-first s room y ys)
 
 -- the first group has as many as the size, and the others are the groups after it
-groups_of-first : {A : Type 0} (s : ℕ) (xs : List A) → 0 < length xs → groups_of (suc s) xs ≡ take (suc s) xs ∷ groups_of (suc s) (drop (suc s) xs)
+groups_of-first : {A : Type 0} (s : ℕ) (xs : List A) → 0 < length xs
+    → groups_of (suc s) xs ≡ take (suc s) xs ∷ groups_of (suc s) (drop (suc s) xs)
 groups_of-first s [] some = absurd (omega (arith, some))
 groups_of-first s (x ∷ xs) some = groups_after-first s s x xs
 
@@ -25,7 +26,8 @@ schedule_lines-first len xs more some is rest =
 -- the first line of runs, and those after it
 pub runs_lines-first : (xs more : List ℕ) → 0 < length (runs_in xs) → runs_in more ≡ drop 32 (runs_in xs)
     → runs_lines xs ≡ runs_line (take 32 (runs_in xs)) ++ runs_lines more
-runs_lines-first xs more some rest = ap (λ groups. flat_map runs_line groups) (groups_of-first 31 (runs_in xs) some) ∙ rw rest refl
+runs_lines-first xs more some rest = ap (λ groups. flat_map runs_line groups) (groups_of-first 31 (runs_in xs) some)
+    ∙ rw rest refl
 
 -- each element is good
 abbrev pub Each : {A : Type 0} → (A → Type 0) → List A → Type 0
@@ -52,7 +54,8 @@ Each-drop Good (suc n) (x ∷ xs) each = Each-drop Good n xs each.1
 abbrev pub IsGroup : {A : Type 0} → (A → Type 0) → ℕ → List A → Type 0
 IsGroup Good size group = (0 < length group) × (length group ≤ size) × Each Good group
 
-Each-group : {A : Type 0} (Good : A → Type 0) (s fuel : ℕ) (xs : List A) → length xs ≤ fuel → Each Good xs → Each (IsGroup Good (suc s)) (groups_of (suc s) xs)
+Each-group : {A : Type 0} (Good : A → Type 0) (s fuel : ℕ) (xs : List A) → length xs ≤ fuel → Each Good xs
+    → Each (IsGroup Good (suc s)) (groups_of (suc s) xs)
 Each-group Good s fuel [] short each = tt
 Each-group Good s zero (x ∷ xs) short each = absurd (omega (arith, short))
 Each-group Good s (suc fuel) (x ∷ xs) short each =
@@ -61,27 +64,32 @@ Each-group Good s (suc fuel) (x ∷ xs) short each =
     let rest : length (drop (suc s) (x ∷ xs)) ≡ length (x ∷ xs) - suc s = length-drop (suc s) (x ∷ xs) in
     rw (groups_of-first s (x ∷ xs) some) (
       (omega (arith, first), omega (arith, first), Each-take Good (suc s) (x ∷ xs) each),
-      Each-group Good s fuel (drop (suc s) (x ∷ xs)) (omega (arith, rest, short)) (Each-drop Good (suc s) (x ∷ xs) each),
+      Each-group Good s fuel (drop (suc s) (x ∷ xs)) (omega (arith, rest, short))
+          (Each-drop Good (suc s) (x ∷ xs) each),
     )
 
 -- the groups of good elements are groups of them
-pub groups_of-each : {A : Type 0} (Good : A → Type 0) (s : ℕ) (xs : List A) → Each Good xs → Each (IsGroup Good (suc s)) (groups_of (suc s) xs)
+pub groups_of-each : {A : Type 0} (Good : A → Type 0) (s : ℕ) (xs : List A) → Each Good xs
+    → Each (IsGroup Good (suc s)) (groups_of (suc s) xs)
 groups_of-each Good s xs each = Each-group Good s (length xs) xs (omega arith) each
 
-joined : {A : Type 0} (content : List A → List ℕ) → ((xs ys : List A) → content (xs ++ ys) ≡ content xs ++ content ys) → content [] ≡ []
+joined : {A : Type 0} (content : List A → List ℕ) → ((xs ys : List A) → content (xs ++ ys) ≡ content xs ++ content ys)
+    → content [] ≡ []
     → (s fuel : ℕ) (xs : List A) → length xs ≤ fuel → flat_map content (groups_of (suc s) xs) ≡ content xs
 joined content append none s fuel [] short = sym none
 joined content append none s zero (x ∷ xs) short = absurd (omega (arith, short))
 joined content append none s (suc fuel) (x ∷ xs) short =
     let some : 0 < length (x ∷ xs) = omega arith in
     let rest : length (drop (suc s) (x ∷ xs)) ≡ length (x ∷ xs) - suc s = length-drop (suc s) (x ∷ xs) in
-    let others : flat_map content (groups_of (suc s) (drop (suc s) (x ∷ xs))) ≡ content (drop (suc s) (x ∷ xs)) = joined content append none s fuel (drop (suc s) (x ∷ xs)) (omega (arith, rest, short)) in
+    let others : flat_map content (groups_of (suc s) (drop (suc s) (x ∷ xs))) ≡ content (drop (suc s) (x ∷ xs)) =
+    joined content append none s fuel (drop (suc s) (x ∷ xs)) (omega (arith, rest, short)) in
     ap (flat_map content) (groups_of-first s (x ∷ xs) some)
     ∙ ap (λ (more : List ℕ). content (take (suc s) (x ∷ xs)) ++ more) others
     ∙ sym (append (take (suc s) (x ∷ xs)) (drop (suc s) (x ∷ xs)))
     ∙ ap content (take-append-drop (suc s) (x ∷ xs))
 
 -- the groups together are the list
-pub groups_of-joined : {A : Type 0} (content : List A → List ℕ) → ((xs ys : List A) → content (xs ++ ys) ≡ content xs ++ content ys) → content [] ≡ []
+pub groups_of-joined : {A : Type 0} (content : List A → List ℕ)
+    → ((xs ys : List A) → content (xs ++ ys) ≡ content xs ++ content ys) → content [] ≡ []
     → (s : ℕ) (xs : List A) → flat_map content (groups_of (suc s) xs) ≡ content xs
 groups_of-joined content append none s xs = joined content append none s (length xs) xs (omega arith)

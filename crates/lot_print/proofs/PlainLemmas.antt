@@ -30,14 +30,16 @@ Shown-append (x ∷ xs) ys first second = (first.0, first.1, Shown-append xs ys 
 
 pub Shown-spaced : (ws : List (List ℕ)) → Words ws → Shown (spaced ws)
 Shown-spaced [] words = tt
-Shown-spaced (w ∷ ws) words = (omega arith, omega arith, Shown-append w (spaced ws) (Shown-word w words.1) (Shown-spaced ws words.2))
+Shown-spaced (w ∷ ws) words =
+    (omega arith, omega arith, Shown-append w (spaced ws) (Shown-word w words.1) (Shown-spaced ws words.2))
 
 -- what is shown is printable
 pub is_printable-shown : (xs : List ℕ) → Shown xs → is_printable Spaces xs ≡ true
 is_printable-shown [] shown = refl
 is_printable-shown (x ∷ xs) shown = at (x == 32) refl (is_printable-shown xs shown.2)
   where
-    at : (e : Bool) → (x == 32) ≡ e → is_printable Spaces xs ≡ true → (((e || (nat_le 33 x && nat_le x 126)) && is_printable Spaces xs) ≡ true)
+    at : (e : Bool) → (x == 32) ≡ e → is_printable Spaces xs ≡ true
+        → (((e || (nat_le 33 x && nat_le x 126)) && is_printable Spaces xs) ≡ true)
     at true is others = others
     at false is others =
         let above : 33 ≤ x = omega (arith, shown.0, eqb-false x 32 is) in
@@ -58,14 +60,16 @@ prefix-line [] shown = refl
 prefix-line (x ∷ xs) shown = rw (no_end x shown.0, prefix-line xs shown.2) (omega arith)
 
 pub without_end-line : (line : List ℕ) → Shown line → without_end (line ++ 10 ∷ []) ≡ line
-without_end-line line shown = ap (λ n. take n (line ++ 10 ∷ [])) (prefix-line line shown) ∙ take-append_seam line (10 ∷ [])
+without_end-line line shown = ap (λ n. take n (line ++ 10 ∷ [])) (prefix-line line shown)
+    ∙ take-append_seam line (10 ∷ [])
 
 -- ---- tokens
 
 no_space : (x : ℕ) → 32 < x → (x == 32) ≡ false
 no_space x high = ne_eqb x 32 (λ same. omega (arith, same, high))
 
-split-word : (w rest : List ℕ) → Plain w → slice_split (λ b. b == 32) (w ++ 32 ∷ rest) ≡ w ∷ slice_split (λ b. b == 32) rest
+split-word : (w rest : List ℕ) → Plain w
+    → slice_split (λ b. b == 32) (w ++ 32 ∷ rest) ≡ w ∷ slice_split (λ b. b == 32) rest
 split-word [] rest plain = refl
 split-word (x ∷ xs) rest plain = rw (no_space x plain.0, split-word xs rest plain.2) refl
 
@@ -73,9 +77,11 @@ split-last : (w : List ℕ) → Plain w → slice_split (λ b. b == 32) w ≡ w 
 split-last [] plain = refl
 split-last (x ∷ xs) plain = rw (no_space x plain.0, split-last xs plain.2) refl
 
-split-words : (w : List ℕ) (ws : List (List ℕ)) → Plain w → Words ws → slice_split (λ b. b == 32) (w ++ spaced ws) ≡ w ∷ ws
+split-words : (w : List ℕ) (ws : List (List ℕ)) → Plain w → Words ws
+    → slice_split (λ b. b == 32) (w ++ spaced ws) ≡ w ∷ ws
 split-words w [] plain words = rw (append-nil w) (split-last w plain)
-split-words w (v ∷ vs) plain words = split-word w (v ++ spaced vs) plain ∙ ap (λ others. w ∷ others) (split-words v vs words.1 words.2)
+split-words w (v ∷ vs) plain words = split-word w (v ++ spaced vs) plain
+    ∙ ap (λ others. w ∷ others) (split-words v vs words.1 words.2)
 
 all_tokens : (ws : List (List ℕ)) → Words ws → filter (λ token. nat_lt 0 (length token)) ws ≡ ws
 all_tokens [] words = refl
@@ -107,14 +113,16 @@ pub Plain-decimal : (n : ℕ) → n < 2 ^ 64 → Plain (decimal n)
 Plain-decimal n small = Plain-digits (decimal n) (decimal_is_IsNumeral n small).0.1
 
 -- it has no leading zero
-no_zero_in_front : (n : ℕ) → n < 2 ^ 64 → not (nat_lt 1 (length (decimal n)) && (slice_index (decimal n) 0 == 48)) ≡ true
+no_zero_in_front : (n : ℕ) → n < 2 ^ 64
+    → not (nat_lt 1 (length (decimal n)) && (slice_index (decimal n) 0 == 48)) ≡ true
 no_zero_in_front zero small = let digit : decimal 0 ≡ 48 ∷ [] = decimal_digit 0 (omega arith) in rw digit refl
 no_zero_in_front (suc n) small =
     let first : 48 < get_or (decimal (suc n)) 0 0 = first_decimal (suc n) (omega arith) small in
     let other : (slice_index (decimal (suc n)) 0 == 48) ≡ false = ne_eqb _ 48 (λ same. omega (arith, same, first)) in
     at (nat_lt 1 (length (decimal (suc n)))) other
   where
-    at : (e : Bool) → (slice_index (decimal (suc n)) 0 == 48) ≡ false → not (e && (slice_index (decimal (suc n)) 0 == 48)) ≡ true
+    at : (e : Bool) → (slice_index (decimal (suc n)) 0 == 48) ≡ false
+        → not (e && (slice_index (decimal (suc n)) 0 == 48)) ≡ true
     at true other = rw other refl
     at false other = refl
 

@@ -7,7 +7,8 @@ pub runs_in-first : (a : ℕ) (bs : List ℕ) (n : ℕ) → n ≡ prefix_len (λ
 runs_in-first a [] n is = rw is refl
 runs_in-first a (b ∷ bs) n is = at (b == a) refl (runs_in-first b bs (prefix_len (λ x. x == b) bs) refl)
   where
-    at : (e : Bool) → (b == a) ≡ e → runs_in (b ∷ bs) ≡ record { actor = b; count = prefix_len (λ x. x == b) bs + 1 } ∷ runs_in (drop (prefix_len (λ x. x == b) bs) bs)
+    at : (e : Bool) → (b == a) ≡ e → runs_in (b ∷ bs) ≡ record { actor = b; count = prefix_len (λ x. x == b) bs + 1 }
+        ∷ runs_in (drop (prefix_len (λ x. x == b) bs) bs)
         → run_before a (runs_in (b ∷ bs)) ≡ record { actor = a; count = n + 1 } ∷ runs_in (drop n (b ∷ bs))
     at true same next =
         let equal : b ≡ a = eqb-true b a same in

@@ -30,7 +30,8 @@ then-kept : {A B : Type 0} (f : A × List ℕ → Read B) (more : List ℕ) (r s
 then-kept f more (Ok found) s kept next ok = ap (λ read. read >>= f) (kept refl) ∙ next found.0 found.1 ok
 then-kept f more (Err e) s kept next ok = cc
 
-read-as-kept : {A B : Type 0} (f : A → B) (more : List ℕ) (r s : Read A) → IsKept more r s → IsKept more (read_as f r) (read_as f s)
+read-as-kept : {A B : Type 0} (f : A → B) (more : List ℕ) (r s : Read A) → IsKept more r s
+    → IsKept more (read_as f r) (read_as f s)
 read-as-kept f more r s kept = then-kept (λ found. Ok (f found.0, found.1)) more r s kept (λ x bytes ok. refl)
 
 either-kept : {A : Type 0} (b : Bool) (more : List ℕ) (r s r' s' : Read A) → IsKept more r s → IsKept more r' s'
@@ -64,25 +65,32 @@ value-kept bytes more slot.Ticket = read-as-kept _ more _ _ (long-kept bytes mor
 value-kept bytes more slot.Script = read-as-kept _ more _ _ (word-kept bytes more)
 value-kept (len ∷ bytes) more slot.Name = read-as-kept _ more _ _ (name-kept len bytes more)
 value-kept (tag ∷ bytes) more slot.Currency =
-    either-kept (tag == 17) more _ _ _ _ (read-as-kept _ more _ _ (word-kept bytes more)) (read-as-kept _ more _ _ (name-kept tag bytes more))
+    either-kept (tag == 17) more _ _ _ _ (read-as-kept _ more _ _ (word-kept bytes more))
+    (read-as-kept _ more _ _ (name-kept tag bytes more))
 value-kept (tag ∷ bytes) more slot.Thread =
-    either-kept (tag == 18) more _ _ _ _ (read-as-kept _ more _ _ (word-kept bytes more)) (read-as-kept _ more _ _ (name-kept tag bytes more))
+    either-kept (tag == 18) more _ _ _ _ (read-as-kept _ more _ _ (word-kept bytes more))
+    (read-as-kept _ more _ _ (name-kept tag bytes more))
 value-kept (tag ∷ bytes) more slot.Target =
     either-kept (tag == 17) more _ _ _ _ (read-as-kept _ more _ _ (word-kept bytes more))
-    (either-kept (tag == 18) more _ _ _ _ (read-as-kept _ more _ _ (word-kept bytes more)) (read-as-kept _ more _ _ (name-kept tag bytes more)))
+    (either-kept (tag == 18) more _ _ _ _ (read-as-kept _ more _ _ (word-kept bytes more))
+    (read-as-kept _ more _ _ (name-kept tag bytes more)))
 value-kept [] more other = λ ok. cc
 
-values-kept : (kinds : List Slot) (bytes more : List ℕ) → IsKept more (values_given value_at kinds bytes) (values_given value_at kinds (bytes ++ more))
+values-kept : (kinds : List Slot) (bytes more : List ℕ)
+    → IsKept more (values_given value_at kinds bytes) (values_given value_at kinds (bytes ++ more))
 values-kept [] bytes more = λ ok. refl
-values-kept (kind ∷ kinds) bytes more = then-kept _ more _ _ (value-kept bytes more kind) (λ v rest. read-as-kept _ more _ _ (values-kept kinds rest more))
+values-kept (kind ∷ kinds) bytes more =
+    then-kept _ more _ _ (value-kept bytes more kind) (λ v rest. read-as-kept _ more _ _ (values-kept kinds rest more))
 
-command-kept : (v : Verb) (bytes more : List ℕ) → IsKept more (command_given value_at v bytes) (command_given value_at v (bytes ++ more))
+command-kept : (v : Verb) (bytes more : List ℕ)
+    → IsKept more (command_given value_at v bytes) (command_given value_at v (bytes ++ more))
 command-kept v bytes more = read-as-kept _ more _ _ (values-kept (form v) bytes more)
 
 -- ---- pools that grow
 
 -- the pool, once something came after the place where a command began
-pub extends-begun : (pool : List ℕ) (begun filling : Filling) → begun.start ≡ length pool → begun.bytes ≡ pool → filled_before filling ≡ filled_before begun
+pub extends-begun : (pool : List ℕ) (begun filling : Filling) → begun.start ≡ length pool → begun.bytes ≡ pool
+    → filled_before filling ≡ filled_before begun
     → Extends pool filling.bytes
 extends-begun pool begun filling start bytes kept =
     let before : filled_before begun ≡ pool = rw (start, bytes) (take_all (length pool) pool (omega arith)) in
@@ -97,30 +105,37 @@ read-grown : (more : List ℕ) (r : Read (Option Command)) → command_read (gro
 read-grown more (Ok given) = refl
 read-grown more (Err e) = refl
 
-command-at-kept : (before after : List ℕ) → Extends before after → (c : PackedCommand) → IsCommandIn before c → command_at after c ≡ command_at before c
+command-at-kept : (before after : List ℕ) → Extends before after → (c : PackedCommand) → IsCommandIn before c
+    → command_at after c ≡ command_at before c
 command-at-kept before after more c is =
     let given = command_given value_at c.verb (drop c.start before) in
     let there = ap (drop c.start) more.1 ∙ drop-append-le c.start before more.0 is.inside in
     ap (λ (bytes : List ℕ). command_read (command_given value_at c.verb bytes)) there
-    ∙ ap command_read (command-kept c.verb (drop c.start before) more.0 (read-is-ok given is.made)) ∙ read-grown more.0 given
+    ∙ ap command_read (command-kept c.verb (drop c.start before) more.0 (read-is-ok given is.made))
+    ∙ read-grown more.0 given
 
-command-in : (before after : List ℕ) → Extends before after → (c : PackedCommand) → IsCommandIn before c → IsCommandIn after c
+command-in : (before after : List ℕ) → Extends before after → (c : PackedCommand) → IsCommandIn before c
+    → IsCommandIn after c
 command-in before after more c is = record {
   inside = omega (arith, is.inside, ap length more.1, length-append before more.0);
   made = rw (command-at-kept before after more c is) is.made;
 }
 
-pub commands-in : (before after : List ℕ) → Extends before after → (cs : List PackedCommand) → All (IsCommandIn before) cs → All (IsCommandIn after) cs
-commands-in before after grown cs within = λ k d below. command-in before after grown (slice_index_or cs k d) (within k d below)
+pub commands-in : (before after : List ℕ) → Extends before after → (cs : List PackedCommand)
+    → All (IsCommandIn before) cs → All (IsCommandIn after) cs
+commands-in before after grown cs within =
+    λ k d below. command-in before after grown (slice_index_or cs k d) (within k d below)
 
-pub commands-kept : (before after : List ℕ) → Extends before after → (cs : List PackedCommand) → All (IsCommandIn before) cs
+pub commands-kept : (before after : List ℕ) → Extends before after → (cs : List PackedCommand)
+    → All (IsCommandIn before) cs
     → map (command_in after) cs ≡ map (command_in before) cs
 commands-kept before after grown [] within = refl
 commands-kept before after grown (c ∷ cs) within =
     let first = command-at-kept before after grown c (within 0 c (omega arith)) in
     rw (first, commands-kept before after grown cs (All-tail (IsCommandIn before) c cs within)) refl
 
-pub commands-added : (before after : List ℕ) → Extends before after → (cs : List PackedCommand) (p : PackedCommand) (c : Command) → All (IsCommandIn before) cs
+pub commands-added : (before after : List ℕ) → Extends before after
+    → (cs : List PackedCommand) (p : PackedCommand) (c : Command) → All (IsCommandIn before) cs
     → command_in after p ≡ c → map (command_in after) (cs ++ p ∷ []) ≡ map (command_in before) cs ++ c ∷ []
 commands-added before after grown cs p c within same =
     map-append (command_in after) cs (p ∷ []) ∙ ap (λ (x : Command). map (command_in after) cs ++ x ∷ []) same
@@ -134,25 +149,35 @@ values-again [] [] taken rest = refl
 values-again [] (v ∷ values) taken rest = absurd taken
 values-again (kind ∷ kinds) [] taken rest = absurd taken
 values-again (kind ∷ kinds) (v ∷ values) taken rest =
-    let first = ap (λ (bytes : List ℕ). value_at bytes kind) (append_assoc (bytes_of v) (flat_map bytes_of values) rest) ∙ taken.0 (flat_map bytes_of values ++ rest) in
-    ap (λ (read : Read Value). read >>= (λ found. values_given value_at kinds found.1 >>= (λ others. Ok (found.0 ∷ others.0, others.1)))) first
+    let first = ap (λ (bytes : List ℕ). value_at bytes kind) (append_assoc (bytes_of v) (flat_map bytes_of values) rest)
+    ∙ taken.0 (flat_map bytes_of values ++ rest) in
+    ap (λ (read : Read Value).
+    read >>= (λ found. values_given value_at kinds found.1 >>= (λ others. Ok (found.0 ∷ others.0, others.1)))) first
     ∙ ap (read_as (λ (vs : List Value). v ∷ vs)) (values-again kinds values taken.1 rest)
 
 -- the pool after these arguments
-values-added : (filling : Filling) (values : List Value) → (fold with_value filling values).bytes ≡ filling.bytes ++ flat_map bytes_of values
+values-added : (filling : Filling) (values : List Value)
+    → (fold with_value filling values).bytes ≡ filling.bytes ++ flat_map bytes_of values
 values-added filling [] = sym (append-nil filling.bytes)
-values-added filling (v ∷ values) = values-added (with_value filling v) values ∙ append_assoc filling.bytes (bytes_of v) (flat_map bytes_of values)
+values-added filling (v ∷ values) = values-added (with_value filling v) values
+    ∙ append_assoc filling.bytes (bytes_of v) (flat_map bytes_of values)
 
 -- a command whose arguments came to the end of the pool
-pub command-added : (c : Command) (pool : List ℕ) (begun filling : Filling) (packed : PackedCommand) → begun.bytes ≡ pool → packed.start ≡ length pool
-    → packed.verb ≡ (parts c).0 → filling ≡ fold with_value begun (parts c).1 → EachTaken IsReadAgain (form (parts c).0) (parts c).1
-    → command_from (parts c).0 (parts c).1 ≡ Some c → IsCommandIn filling.bytes packed × (command_in filling.bytes packed ≡ c)
+pub command-added : (c : Command) (pool : List ℕ) (begun filling : Filling) (packed : PackedCommand)
+    → begun.bytes ≡ pool → packed.start ≡ length pool
+    → packed.verb ≡ (parts c).0 → filling ≡ fold with_value begun (parts c).1
+    → EachTaken IsReadAgain (form (parts c).0) (parts c).1
+    → command_from (parts c).0 (parts c).1 ≡ Some c
+    → IsCommandIn filling.bytes packed × (command_in filling.bytes packed ≡ c)
 command-added c pool begun filling packed begins start verb added taken back =
     let all = flat_map bytes_of (parts c).1 in
     let there : filling.bytes ≡ pool ++ all =
-    ap (λ (f : Filling). f.bytes) added ∙ values-added begun (parts c).1 ∙ ap (λ (bytes : List ℕ). bytes ++ all) begins in
-    let rest : drop packed.start filling.bytes ≡ all ++ [] = ap (drop packed.start) there ∙ drop_at pool all packed.start (sym start) ∙ sym (append-nil all) in
-    let read = ap (λ (read : Read (List Value)). command_read (read_as (command_from (parts c).0) read)) (values-again (form (parts c).0) (parts c).1 taken []) in
+    ap (λ (f : Filling). f.bytes) added ∙ values-added begun (parts c).1
+    ∙ ap (λ (bytes : List ℕ). bytes ++ all) begins in
+    let rest : drop packed.start filling.bytes ≡ all ++ [] = ap (drop packed.start) there
+    ∙ drop_at pool all packed.start (sym start) ∙ sym (append-nil all) in
+    let read = ap (λ (read : Read (List Value)). command_read (read_as (command_from (parts c).0) read))
+    (values-again (form (parts c).0) (parts c).1 taken []) in
     let is : command_at filling.bytes packed ≡ Some c = rw (verb, rest) (read ∙ back) in
     let inside : packed.start ≤ length filling.bytes = omega (arith, start, ap length there, length-append pool all) in
     (record { inside = inside; made = rw is refl }, rw is refl)

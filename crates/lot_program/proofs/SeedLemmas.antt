@@ -16,5 +16,6 @@ range_with_len-push n = let same : 1 + n ≡ n + 1 = omega arith in rw (range-pu
 pub AreSeeds-own : (n : ℕ) → n ≤ 64 → AreSeeds n (range_with_len 1 n)
 AreSeeds-own n few = record {
   count = length-range_with_len 1 n;
-  each = λ k d within. let short : k < n = rw length-range_with_len at within in rw (get_or-range_with_len 1 n k d short) (omega arith, omega (arith, short, few));
+  each = λ k d within. let short : k < n = rw length-range_with_len at within in
+      rw (get_or-range_with_len 1 n k d short) (omega arith, omega (arith, short, few));
 }

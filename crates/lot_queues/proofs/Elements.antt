@@ -3,10 +3,12 @@ use Rattle.lot_queues.proofs.Common.{Contains, Contains-append_cases, Contains-a
 pub use Rattle.lot_machine.proofs.EachOnce.{contains-nothing}
 
 pub contains-drop : {A : Type 0} (xs : List A) (k : ℕ) (x : A) → Contains (drop k xs) x → Contains xs x
-contains-drop {A} xs k x w = subst (λ (ys : List A). Contains ys x) (take-append-drop k xs) (Contains-append_right (take k xs) (drop k xs) x w)
+contains-drop {A} xs k x w =
+    subst (λ (ys : List A). Contains ys x) (take-append-drop k xs) (Contains-append_right (take k xs) (drop k xs) x w)
 
 contains-take : {A : Type 0} (xs : List A) (k : ℕ) (x : A) → Contains (take k xs) x → Contains xs x
-contains-take {A} xs k x w = subst (λ (ys : List A). Contains ys x) (take-append-drop k xs) (Contains-append_left (take k xs) (drop k xs) x w)
+contains-take {A} xs k x w =
+    subst (λ (ys : List A). Contains ys x) (take-append-drop k xs) (Contains-append_left (take k xs) (drop k xs) x w)
 
 pub contains-remove : {A : Type 0} (xs : List A) (place : ℕ) (x : A) → Contains (remove xs place) x → Contains xs x
 contains-remove {A} xs place x w = from (Contains-append_cases (take place xs) (drop (suc place) xs) x w)
@@ -28,7 +30,8 @@ contains-node nodes t w =
     (omega (arith, is), (w.0, within, get_or_default nodes w.0 (t - 1) 0 within ∙ omega (arith, is)))
 
 -- who called
-pub callers : (sent nodes : List ℕ) → map (λ (call : QueuedCall). call.caller) (map (call_of sent) nodes) ≡ map (λ n. n + 1) nodes
+pub callers : (sent nodes : List ℕ)
+    → map (λ (call : QueuedCall). call.caller) (map (call_of sent) nodes) ≡ map (λ n. n + 1) nodes
 callers sent [] = refl
 callers sent (n ∷ nodes) = ap (λ ts. (n + 1) ∷ ts) (callers sent nodes)
 
@@ -36,7 +39,8 @@ pub map-drop : {A B : Type 0} (f : A → B) (xs : List A) → map f (drop 1 xs) 
 map-drop f [] = refl
 map-drop f (x ∷ xs) = refl
 
-pub map-remove : {A B : Type 0} (f : A → B) (xs : List A) (place : ℕ) → map f (remove xs place) ≡ remove (map f xs) place
+pub map-remove : {A B : Type 0} (f : A → B) (xs : List A) (place : ℕ)
+    → map f (remove xs place) ≡ remove (map f xs) place
 map-remove f [] zero = refl
 map-remove f [] (suc place) = refl
 map-remove f (x ∷ xs) zero = refl
@@ -47,8 +51,10 @@ map-push f [] x = refl
 map-push f (y ∷ xs) x = ap (λ ys. f y ∷ ys) (map-push f xs x)
 
 -- a number that another node sent doesn't matter to these calls
-pub calls-kept : (sent nodes : List ℕ) (node number : ℕ) → ¬ Contains nodes node → map (call_of (set sent node number)) nodes ≡ map (call_of sent) nodes
+pub calls-kept : (sent nodes : List ℕ) (node number : ℕ) → ¬ Contains nodes node
+    → map (call_of (set sent node number)) nodes ≡ map (call_of sent) nodes
 calls-kept sent [] node number absent = refl
 calls-kept sent (n ∷ nodes) node number absent =
-    ap₂ ◌∷◌ (ap (λ (sent_now : ℕ). let call : QueuedCall = record { caller = n + 1; number = sent_now } in call) (get_or-set_other sent node n number 0 (λ same. absent (zero, omega arith, same))))
+    ap₂ ◌∷◌ (ap (λ (sent_now : ℕ). let call : QueuedCall = record { caller = n + 1; number = sent_now } in call)
+    (get_or-set_other sent node n number 0 (λ same. absent (zero, omega arith, same))))
     (calls-kept sent nodes node number (λ w. absent (suc w.0, omega (arith, w.1), w.2)))

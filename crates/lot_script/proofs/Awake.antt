@@ -17,13 +17,16 @@ same-loops loops other = refl
 lines-good : (lines : List ScriptLine) → All IsLine lines → All IsLine (map without_sleep lines)
 lines-good [] all = All-nil IsLine
 lines-good (l ∷ lines) all =
-    All-cons IsLine (without_sleep l) (map without_sleep lines) (is-line l (All-head IsLine l lines all)) (lines-good lines (All-tail IsLine l lines all))
+    All-cons IsLine (without_sleep l) (map without_sleep lines) (is-line l (All-head IsLine l lines all))
+    (lines-good lines (All-tail IsLine l lines all))
 
 lines-nest : (loops : ℕ) (lines : List ScriptLine) → Nests loops lines → Nests loops (map without_sleep lines)
 lines-nest loops [] nests = tt
-lines-nest loops (l ∷ lines) nests = (can-nest loops l nests.0, rw (same-loops loops l) (lines-nest (loops_after loops l) lines nests.1))
+lines-nest loops (l ∷ lines) nests =
+    (can-nest loops l nests.0, rw (same-loops loops l) (lines-nest (loops_after loops l) lines nests.1))
 
-lines-open : (loops : ℕ) (lines : List ScriptLine) → fold loops_after loops (map without_sleep lines) ≡ fold loops_after loops lines
+lines-open : (loops : ℕ) (lines : List ScriptLine)
+    → fold loops_after loops (map without_sleep lines) ≡ fold loops_after loops lines
 lines-open loops [] = refl
 lines-open loops (l ∷ lines) =
     ap (λ k. fold loops_after k (map without_sleep lines)) (same-loops loops l) ∙ lines-open (loops_after loops l) lines

@@ -15,7 +15,8 @@ rest_same e = cc
 same_loop : (x y : OpenLoop) → x.body ≡ y.body → x.left ≡ y.left → x ≡ y
 same_loop x y body left = of_fields x.body x.left y.body y.left body left
   where
-    of_fields : (b l c m : ℕ) → b ≡ c → l ≡ m → (let u : OpenLoop = record { body = b; left = l } in u) ≡ (let v : OpenLoop = record { body = c; left = m } in v)
+    of_fields : (b l c m : ℕ) → b ≡ c → l ≡ m → (let u : OpenLoop = record { body = b; left = l } in u)
+        ≡ (let v : OpenLoop = record { body = c; left = m } in v)
     of_fields b l c m one two = rw (one, two) refl
 
 -- ---- which loops are open at a line
@@ -48,11 +49,13 @@ low-there lines (suc i) within = further (low-there lines i (omega (arith, withi
     next : suc i ≡ i + 1
     next = omega arith
 
-    further : AreLow i (open_at lines i) → (o : Option ScriptLine) → slice_get lines i ≡ o → AreLow (suc i) (open_at lines (suc i))
+    further : AreLow i (open_at lines i) → (o : Option ScriptLine) → slice_get lines i ≡ o
+        → AreLow (suc i) (open_at lines (suc i))
     further low None none = absurd (omega (arith, within, slice_get_none lines i none))
     further low (Some l) is = rw (open_at-next lines i (suc i) l is next, next) (low-after i l (open_at lines i) low)
 
-low-first : (i : ℕ) (loops : List OpenLoop) (f : OpenLoop) (rest : List OpenLoop) → AreLow i loops → loops ≡ f ∷ rest → f.body ≤ i
+low-first : (i : ℕ) (loops : List OpenLoop) (f : OpenLoop) (rest : List OpenLoop) → AreLow i loops → loops ≡ f ∷ rest
+    → f.body ≤ i
 low-first i loops f rest low is = let both : AreLow i (f ∷ rest) = subst (AreLow i) is low in both.0
 
 -- The loop whose body begins at this line is opened by the line before it, inside of those that are open there.
@@ -64,7 +67,8 @@ record IsOpened (lines : List ScriptLine) (k : ℕ) (f : OpenLoop) (rest : List 
   first : f ≡ record { body = before + 1; left = times - 1 }
   outer : rest ≡ open_at lines before
 
-opened : (lines : List ScriptLine) (k : ℕ) (f : OpenLoop) (rest : List OpenLoop) → k ≤ length lines → open_at lines k ≡ f ∷ rest → f.body ≡ k → IsOpened lines k f rest
+opened : (lines : List ScriptLine) (k : ℕ) (f : OpenLoop) (rest : List OpenLoop) → k ≤ length lines
+    → open_at lines k ≡ f ∷ rest → f.body ≡ k → IsOpened lines k f rest
 opened lines zero f rest within here body = cc
 opened lines (suc j) f rest within here body = at_line (slice_get lines j) refl
   where
@@ -74,9 +78,11 @@ opened lines (suc j) f rest within here body = at_line (slice_get lines j) refl
     low : AreLow j (open_at lines j)
     low = low-there lines j (omega (arith, within))
 
-    of_line : (l : ScriptLine) → slice_get lines j ≡ Some l → open_after j l (open_at lines j) ≡ f ∷ rest → IsOpened lines (suc j) f rest
+    of_line : (l : ScriptLine) → slice_get lines j ≡ Some l → open_after j l (open_at lines j) ≡ f ∷ rest
+        → IsOpened lines (suc j) f rest
     of_line (line.Loop n) is there = record { before = j; times = n; next = next; is = is; first = cc; outer = cc }
-    of_line line.End is there = absurd (omega (arith, body, low-first j (drop 1 (open_at lines j)) f rest (low-drop j (open_at lines j) low) there))
+    of_line line.End is there = absurd
+        (omega (arith, body, low-first j (drop 1 (open_at lines j)) f rest (low-drop j (open_at lines j) low) there))
     of_line other is there = absurd (omega (arith, body, low-first j (open_at lines j) f rest low there))
 
     at_line : (o : Option ScriptLine) → slice_get lines j ≡ o → IsOpened lines (suc j) f rest
@@ -96,25 +102,30 @@ avoid-drop : (k : ℕ) (loops : List OpenLoop) → Avoid k loops → Avoid k (dr
 avoid-drop k [] avoid = tt
 avoid-drop k (o ∷ loops) avoid = avoid.1
 
-avoid-after : (k i : ℕ) (l : ScriptLine) (loops : List OpenLoop) → k ≤ i → Avoid k loops → Avoid k (open_after i l loops)
+avoid-after : (k i : ℕ) (l : ScriptLine) (loops : List OpenLoop) → k ≤ i → Avoid k loops
+    → Avoid k (open_after i l loops)
 avoid-after k i (line.Loop n) loops past avoid = (omega (arith, past), avoid)
 avoid-after k i line.End loops past avoid = avoid-drop k loops avoid
 avoid-after k i other loops past avoid = avoid
 
 -- a loop that was left is never opened again
-avoid-later : (lines : List ScriptLine) (k e d m : ℕ) → k ≤ e → m ≡ d + suc e → m ≤ length lines → Avoid k (open_at lines (suc e)) → Avoid k (open_at lines m)
+avoid-later : (lines : List ScriptLine) (k e d m : ℕ) → k ≤ e → m ≡ d + suc e → m ≤ length lines
+    → Avoid k (open_at lines (suc e)) → Avoid k (open_at lines m)
 avoid-later lines k e zero m past is within avoid =
     let same : m ≡ suc e = omega (arith, is) in
     rw same avoid
 avoid-later lines k e (suc d) m past is within avoid =
-    further (avoid-later lines k e d (d + suc e) past refl (omega (arith, is, within)) avoid) (slice_get lines (d + suc e)) refl
+    further (avoid-later lines k e d (d + suc e) past refl (omega (arith, is, within)) avoid)
+    (slice_get lines (d + suc e)) refl
   where
     next : m ≡ d + suc e + 1
     next = omega (arith, is)
 
-    further : Avoid k (open_at lines (d + suc e)) → (o : Option ScriptLine) → slice_get lines (d + suc e) ≡ o → Avoid k (open_at lines m)
+    further : Avoid k (open_at lines (d + suc e)) → (o : Option ScriptLine) → slice_get lines (d + suc e) ≡ o
+        → Avoid k (open_at lines m)
     further earlier None none = absurd (omega (arith, within, next, slice_get_none lines (d + suc e) none))
-    further earlier (Some l) here = rw (open_at-next lines (d + suc e) m l here next) (avoid-after k (d + suc e) l (open_at lines (d + suc e)) (omega (arith, past)) earlier)
+    further earlier (Some l) here = rw (open_at-next lines (d + suc e) m l here next)
+        (avoid-after k (d + suc e) l (open_at lines (d + suc e)) (omega (arith, past)) earlier)
 
 -- ---- one mark or trap further
 
@@ -140,8 +151,10 @@ record IsAgain (lines : List ScriptLine) (p q : Place) : Type 0 where
 
 -- one mark or trap is passed, whatever becomes of the accumulator
 data Step (lines : List ScriptLine) (p q : Place) : Type 0 where
-  Within : (n : ℕ) → slice_get lines p.line ≡ Some (line.Compute n) → q.line ≡ p.line → q.done ≡ p.done + 1 → q.loops ≡ p.loops → Step lines p q
-  Past : (l : ScriptLine) → slice_get lines p.line ≡ Some l → q.line ≡ p.line + 1 → q.done ≡ 0 → IsPassed l p q → Step lines p q
+  Within : (n : ℕ) → slice_get lines p.line ≡ Some (line.Compute n) → q.line ≡ p.line → q.done ≡ p.done + 1
+      → q.loops ≡ p.loops → Step lines p q
+  Past : (l : ScriptLine) → slice_get lines p.line ≡ Some l → q.line ≡ p.line + 1 → q.done ≡ 0 → IsPassed l p q
+      → Step lines p q
   Again : IsAgain lines p q → Step lines p q
 
 -- the same place but for the accumulator
@@ -154,9 +167,11 @@ record IsSameSpot (p q : Place) : Type 0 where
 
 -- the loops in which the next copy begins are opened by the line before their body
 again-opened : (lines : List ScriptLine) (p q : Place) → IsScript lines → Fits lines p → (a : IsAgain lines p q)
-    → (f : OpenLoop) × (rest : List OpenLoop) × (open_at lines p.line ≡ f ∷ rest) × (f.body ≡ q.line) × (suc a.left ≤ f.left) × IsOpened lines q.line f rest
+    → (f : OpenLoop) × (rest : List OpenLoop) × (open_at lines p.line ≡ f ∷ rest) × (f.body ≡ q.line)
+    × (suc a.left ≤ f.left) × IsOpened lines q.line f rest
 again-opened lines p q script fits a =
-    let first = copies-first a.loop a.outer (open_at lines p.line) (subst (λ l. AreCopies l (open_at lines p.line)) a.inside fits.loops) in
+    let first = copies-first a.loop a.outer (open_at lines p.line)
+    (subst (λ l. AreCopies l (open_at lines p.line)) a.inside fits.loops) in
     let f : OpenLoop = first.0 in
     let encloses = rw (first.2, drop-element lines p.line line.End a.is) at (encloses-there lines p.line fits.line) in
     let body : f.body ≡ q.line = omega (arith, first.3.body, a.body) in
@@ -165,13 +180,15 @@ again-opened lines p q script fits a =
     (f, first.1, first.2, body, omega (arith, a.some, first.3.left), opened lines q.line f first.1 within here body)
 
 -- the line before the body doesn't lead to a later copy
-past-again : (lines : List ScriptLine) (p r q : Place) (l : ScriptLine) → IsScript lines → Fits lines r → slice_get lines p.line ≡ Some l → q.line ≡ p.line + 1 → IsPassed l p q → IsAgain lines r q → ⊥
+past-again : (lines : List ScriptLine) (p r q : Place) (l : ScriptLine) → IsScript lines → Fits lines r
+    → slice_get lines p.line ≡ Some l → q.line ≡ p.line + 1 → IsPassed l p q → IsAgain lines r q → ⊥
 past-again lines p r q l script fits is next passed a =
     let there = again-opened lines r q script fits a in
     let o : IsOpened lines q.line there.0 there.1 = there.5 in
     let same : o.before ≡ p.line = omega (arith, o.next, next) in
     let loop : l ≡ line.Loop o.times = cc_line o.before o.times same o.is in
-    let first : q.loops ≡ record { body = p.line + 1; left = o.times - 1 } ∷ p.loops = (subst (λ x. IsPassed x p q) loop passed).1 in
+    let first : q.loops ≡ record { body = p.line + 1; left = o.times - 1 } ∷ p.loops =
+    (subst (λ x. IsPassed x p q) loop passed).1 in
     let left : a.left ≡ o.times - 1 = ap (λ x. x.left) (first_same (sym a.again ∙ first)) in
     let most : there.0.left ≡ o.times - 1 = ap (λ x. x.left) o.first in
     omega (arith, left, most, there.4)
@@ -180,22 +197,28 @@ past-again lines p r q l script fits is next passed a =
     cc_line b n same other = let here : slice_get lines p.line ≡ Some (line.Loop n) = rw (← same) other in cc
 
 -- it ends at one `end` alone
-again-line : (lines : List ScriptLine) (p r q : Place) → IsScript lines → Fits lines p → Fits lines r → IsAgain lines p q → IsAgain lines r q → p.line < r.line → ⊥
+again-line : (lines : List ScriptLine) (p r q : Place) → IsScript lines → Fits lines p → Fits lines r
+    → IsAgain lines p q → IsAgain lines r q → p.line < r.line → ⊥
 again-line lines p r q script fits other a b less =
     let here = again-opened lines p q script fits a in
     let there = again-opened lines r q script other b in
     let o : IsOpened lines q.line here.0 here.1 = here.5 in
-    let inside : here.0.body ≤ p.line = low-first p.line (open_at lines p.line) here.0 here.1 (low-there lines p.line fits.line) here.2 in
+    let inside : here.0.body ≤ p.line =
+    low-first p.line (open_at lines p.line) here.0 here.1 (low-there lines p.line fits.line) here.2 in
     let past : q.line ≤ p.line = omega (arith, here.3, inside) in
     let before : o.before ≤ length lines = omega (arith, slice_get_within lines o.before (line.Loop o.times) o.is) in
-    let outer : Avoid q.line here.1 = rw (o.outer) (low-avoid o.before q.line (open_at lines o.before) (omega (arith, o.next)) (low-there lines o.before before)) in
-    let left : open_at lines (suc p.line) ≡ here.1 = open_at-next lines p.line (suc p.line) line.End a.is (omega arith) ∙ ap (drop 1) here.2 in
+    let outer : Avoid q.line here.1 = rw (o.outer)
+    (low-avoid o.before q.line (open_at lines o.before) (omega (arith, o.next)) (low-there lines o.before before)) in
+    let left : open_at lines (suc p.line) ≡ here.1 = open_at-next lines p.line (suc p.line) line.End a.is (omega arith)
+    ∙ ap (drop 1) here.2 in
     let count : r.line ≡ r.line - suc p.line + suc p.line = omega (arith, less) in
-    let avoid : Avoid q.line (open_at lines r.line) = avoid-later lines q.line p.line (r.line - suc p.line) r.line past count other.line (rw left outer) in
+    let avoid : Avoid q.line (open_at lines r.line) =
+    avoid-later lines q.line p.line (r.line - suc p.line) r.line past count other.line (rw left outer) in
     let first : Avoid q.line (there.0 ∷ there.1) = subst (Avoid q.line) there.2 avoid in
     first.0 there.3
 
-again-same : (lines : List ScriptLine) (p r q : Place) → IsScript lines → Fits lines p → Fits lines r → IsAgain lines p q → IsAgain lines r q → p.line ≡ r.line
+again-same : (lines : List ScriptLine) (p r q : Place) → IsScript lines → Fits lines p → Fits lines r
+    → IsAgain lines p q → IsAgain lines r q → p.line ≡ r.line
 again-same lines p r q script fits other a b = either (cases_lt p.line r.line) (cases_lt r.line p.line)
   where
     either : (p.line < r.line) ⊎ (r.line ≤ p.line) → (r.line < p.line) ⊎ (p.line ≤ r.line) → p.line ≡ r.line
@@ -213,13 +236,17 @@ again-loops lines p r q a b =
     a.inside ∙ rw (loop, outer) refl ∙ sym b.inside
 
 -- the loops before a line was passed
-passed-same : (lines : List ScriptLine) (p r q : Place) (l : ScriptLine) → Fits lines p → Fits lines r → p.line ≡ r.line → IsPassed l p q → IsPassed l r q → (p.done ≡ r.done) × (p.loops ≡ r.loops)
+passed-same : (lines : List ScriptLine) (p r q : Place) (l : ScriptLine) → Fits lines p → Fits lines r → p.line ≡ r.line
+    → IsPassed l p q → IsPassed l r q → (p.done ≡ r.done) × (p.loops ≡ r.loops)
 passed-same lines p r q (line.Compute n) fits other same one two = (omega (arith, one.0, two.0), one.1 ∙ sym two.1)
 passed-same lines p r q (line.Loop n) fits other same one two = (one.0 ∙ sym two.0, rest_same (sym one.1 ∙ two.1))
-passed-same lines p r q line.End fits other same one two = (one.0 ∙ sym two.0, one.1.1 ∙ ap (λ o. o ∷ q.loops) loop ∙ sym two.1.1)
+passed-same lines p r q line.End fits other same one two =
+    (one.0 ∙ sym two.0, one.1.1 ∙ ap (λ o. o ∷ q.loops) loop ∙ sym two.1.1)
   where
-    body : (s : Place) → Fits lines s → (o : OpenLoop) → s.loops ≡ o ∷ q.loops → (f : OpenLoop) × (rest : List OpenLoop) × (open_at lines s.line ≡ f ∷ rest) × (o.body ≡ f.body)
-    body s there o is = let first = copies-first o q.loops (open_at lines s.line) (subst (λ l. AreCopies l (open_at lines s.line)) is there.loops) in (first.0, first.1, first.2, first.3.body)
+    body : (s : Place) → Fits lines s → (o : OpenLoop) → s.loops ≡ o ∷ q.loops
+        → (f : OpenLoop) × (rest : List OpenLoop) × (open_at lines s.line ≡ f ∷ rest) × (o.body ≡ f.body)
+    body s there o is = let first = copies-first o q.loops (open_at lines s.line)
+        (subst (λ l. AreCopies l (open_at lines s.line)) is there.loops) in (first.0, first.1, first.2, first.3.body)
 
     bodies : one.1.0.body ≡ two.1.0.body
     bodies =
@@ -232,27 +259,35 @@ passed-same lines p r q line.End fits other same one two = (one.0 ∙ sym two.0,
     loop = same_loop one.1.0 two.1.0 bodies (one.1.2 ∙ sym two.1.2)
 passed-same lines p r q other_line fits other same one two = (one.0 ∙ sym two.0, one.1 ∙ sym two.1)
 
-step-back : (lines : List ScriptLine) (p r q : Place) → IsScript lines → Fits lines p → Fits lines r → Step lines p q → Step lines r q → IsSameSpot p r
+step-back : (lines : List ScriptLine) (p r q : Place) → IsScript lines → Fits lines p → Fits lines r → Step lines p q
+    → Step lines r q → IsSameSpot p r
 step-back lines p r q script fits other (Within n is next done loops) (Within m there onward more around) =
     record { line = sym next ∙ onward; done = omega (arith, done, more); loops = sym loops ∙ around }
-step-back lines p r q script fits other (Within n is next done loops) (Past l there onward begun passed) = absurd (omega (arith, done, begun))
+step-back lines p r q script fits other (Within n is next done loops) (Past l there onward begun passed) =
+    absurd (omega (arith, done, begun))
 step-back lines p r q script fits other (Within n is next done loops) (Again b) = absurd (omega (arith, done, b.there))
-step-back lines p r q script fits other (Past l is next begun passed) (Within m there onward more around) = absurd (omega (arith, begun, more))
+step-back lines p r q script fits other (Past l is next begun passed) (Within m there onward more around) =
+    absurd (omega (arith, begun, more))
 step-back lines p r q script fits other (Past l is next begun passed) (Past k there onward also after) =
     let same : p.line ≡ r.line = omega (arith, next, onward) in
     let one : l ≡ k = (let here : slice_get lines r.line ≡ Some l = rw (← same) is in cc) in
     let both = passed-same lines p r q l fits other same passed (rw one after) in
     record { line = same; done = both.0; loops = both.1 }
-step-back lines p r q script fits other (Past l is next begun passed) (Again b) = absurd (past-again lines p r q l script other is next passed b)
-step-back lines p r q script fits other (Again a) (Within m there onward more around) = absurd (omega (arith, a.there, more))
-step-back lines p r q script fits other (Again a) (Past l there onward begun passed) = absurd (past-again lines r p q l script fits there onward passed a)
+step-back lines p r q script fits other (Past l is next begun passed) (Again b) =
+    absurd (past-again lines p r q l script other is next passed b)
+step-back lines p r q script fits other (Again a) (Within m there onward more around) =
+    absurd (omega (arith, a.there, more))
+step-back lines p r q script fits other (Again a) (Past l there onward begun passed) =
+    absurd (past-again lines r p q l script fits there onward passed a)
 step-back lines p r q script fits other (Again a) (Again b) =
     record { line = again-same lines p r q script fits other a b; done = a.begun ∙ sym b.begun; loops = again-loops lines p r q a b }
 
 -- a step leads to a spot, whatever the accumulator there
 step-spot : (lines : List ScriptLine) (r q s : Place) → IsSameSpot s q → Step lines r q → Step lines r s
-step-spot lines r q s spot (Within n is next done loops) = Within n is (spot.line ∙ next) (spot.done ∙ done) (spot.loops ∙ loops)
-step-spot lines r q s spot (Past l is next begun passed) = Past l is (spot.line ∙ next) (spot.done ∙ begun) (passed-spot l passed)
+step-spot lines r q s spot (Within n is next done loops) =
+    Within n is (spot.line ∙ next) (spot.done ∙ done) (spot.loops ∙ loops)
+step-spot lines r q s spot (Past l is next begun passed) =
+    Past l is (spot.line ∙ next) (spot.done ∙ begun) (passed-spot l passed)
   where
     passed-spot : (m : ScriptLine) → IsPassed m r q → IsPassed m r s
     passed-spot (line.Compute n) h = (h.0, h.1 ∙ sym spot.loops)
@@ -271,10 +306,13 @@ record IsStepped (lines : List ScriptLine) (p q : Place) : Type 0 where
   rest : rest_at lines q ≡ drop 1 (rest_at lines p)
 
 -- the line is left
-left_line : (lines : List ScriptLine) (p q : Place) (l : ScriptLine) → slice_get lines p.line ≡ Some l → q.line ≡ p.line + 1 → q.done ≡ 0 → IsPassed l p q → Fits lines q → rest_at lines q ≡ drop 1 (rest_at lines p) → IsStepped lines p q
-left_line lines p q l is next begun passed fits rest = record { step = Past l is next begun passed; fits = fits; rest = rest }
+left_line : (lines : List ScriptLine) (p q : Place) (l : ScriptLine) → slice_get lines p.line ≡ Some l → q.line ≡ p.line
+    + 1 → q.done ≡ 0 → IsPassed l p q → Fits lines q → rest_at lines q ≡ drop 1 (rest_at lines p) → IsStepped lines p q
+left_line lines p q l is next begun passed fits rest =
+    record { step = Past l is next begun passed; fits = fits; rest = rest }
 
-stepped-compute : (lines : List ScriptLine) (p : Place) (n : ℕ) → Stands lines p (line.Compute n) → (p.done + 1 < n) ⊎ (n ≤ p.done + 1) → (q : Place) × IsStepped lines p q
+stepped-compute : (lines : List ScriptLine) (p : Place) (n : ℕ) → Stands lines p (line.Compute n)
+    → (p.done + 1 < n) ⊎ (n ≤ p.done + 1) → (q : Place) × IsStepped lines p q
 stepped-compute lines p n at (inl more) =
     let passes = Passes-some lines p n 1 at more in
     (record p { done = p.done + 1 }, record { step = Within n at.next refl refl refl; fits = passes.fits; rest = passes.rest })
@@ -285,8 +323,10 @@ stepped-compute lines p n at (inr last) =
     let whole : p.done + 1 ≡ n = omega (arith, done, last) in
     (record p { line = p.line + 1; done = 0 }, left_line lines p (record p { line = p.line + 1; done = 0 }) (line.Compute n) at.next refl refl (whole, refl) passes.fits (passes.rest ∙ ap (λ k. drop k (rest_at lines p)) count))
 
-stepped-end : (lines : List ScriptLine) (p : Place) (loops : List OpenLoop) → Stands lines p line.End → p.loops ≡ loops → (q : Place) × IsStepped lines p q
-stepped-end lines p [] at none = let some : 0 < length p.loops = stands-nests lines p line.End at in absurd (omega (arith, some, ap length none))
+stepped-end : (lines : List ScriptLine) (p : Place) (loops : List OpenLoop) → Stands lines p line.End → p.loops ≡ loops
+    → (q : Place) × IsStepped lines p q
+stepped-end lines p [] at none = let some : 0 < length p.loops = stands-nests lines p line.End at in
+    absurd (omega (arith, some, ap length none))
 stepped-end lines p (o ∷ outer) at is = of_left o.left refl
   where
     begun : p.done ≡ 0
@@ -299,14 +339,16 @@ stepped-end lines p (o ∷ outer) at is = of_left o.left refl
     of_left (suc left) some =
         let passes = Passes-again lines p o outer at is (omega (arith, some)) in
         let fewer : o.left - 1 ≡ left = omega (arith, some) in
-        let again : IsAgain lines p (record p { line = o.body; done = 0; loops = record o { left = o.left - 1 } ∷ outer }) =
+        let again : IsAgain lines p
+        (record p { line = o.body; done = 0; loops = record o { left = o.left - 1 } ∷ outer }) =
         record { is = at.next; begun = begun; there = refl; loop = o; outer = outer; left = left; inside = is; some = some; body = refl; again = rw fewer refl } in
         (record p { line = o.body; done = 0; loops = record o { left = o.left - 1 } ∷ outer }, record { step = Again again; fits = passes.fits; rest = passes.rest })
 
 stepped : (lines : List ScriptLine) (p : Place) (l : ScriptLine) → Stands lines p l → (q : Place) × IsStepped lines p q
 stepped lines p (line.Compute n) at = stepped-compute lines p n at (cases_lt (p.done + 1) n)
 stepped lines p (line.Loop n) at =
-    let q : Place = record p { line = p.line + 1; done = 0; loops = record { body = p.line + 1; left = n - 1 } ∷ p.loops } in
+    let q : Place =
+    record p { line = p.line + 1; done = 0; loops = record { body = p.line + 1; left = n - 1 } ∷ p.loops } in
     let passes = Passes-loop lines p n at in
     (q, left_line lines p q (line.Loop n) at.next refl refl (stands-done lines p (line.Loop n) at, refl) passes.fits passes.rest)
 stepped lines p line.End at = stepped-end lines p p.loops at refl
@@ -325,7 +367,8 @@ stepped lines p (line.Trap t) at =
 
 -- after the last line no loop is open
 none-open : (lines : List ScriptLine) (i : ℕ) → IsScript lines → length lines ≤ i → length (open_at lines i) ≡ 0
-none-open lines i script past = length-open_after_lines 0 [] (take i lines) ∙ ap (λ ls. fold loops_after 0 ls) (take_all i lines past) ∙ script.closed
+none-open lines i script past = length-open_after_lines 0 [] (take i lines)
+    ∙ ap (λ ls. fold loops_after 0 ls) (take_all i lines past) ∙ script.closed
 
 no-copies : (loops firsts : List OpenLoop) → AreCopies loops firsts → length firsts ≡ 0 → loops ≡ []
 no-copies [] firsts copies none = refl
@@ -339,29 +382,36 @@ record IsLast (lines : List ScriptLine) (p : Place) : Type 0 where
   loops : p.loops ≡ []
   rest : rest_at lines p ≡ Traps Exit ∷ []
 
-last-there : (lines : List ScriptLine) (p : Place) → IsScript lines → Fits lines p → slice_get lines p.line ≡ None → IsLast lines p
+last-there : (lines : List ScriptLine) (p : Place) → IsScript lines → Fits lines p → slice_get lines p.line ≡ None
+    → IsLast lines p
 last-there lines p script fits none =
     let past : length lines ≤ p.line = slice_get_none lines p.line none in
     let begun : p.done ≡ 0 = subst (λ l. CanBeDone l p.done) none fits.done in
-    let loops : p.loops ≡ [] = no-copies p.loops (open_at lines p.line) fits.loops (none-open lines p.line script past) in
+    let loops : p.loops ≡ [] =
+    no-copies p.loops (open_at lines p.line) fits.loops (none-open lines p.line script past) in
     record { line = omega (arith, past, fits.line); done = begun; loops = loops; rest = rw (begun, loops, drop_all p.line lines past) refl }
 
 -- ---- one place for each rest
 
 -- as much is left at both places
-same-spot : (lines : List ScriptLine) (n : ℕ) (p r : Place) → IsScript lines → Fits lines p → Fits lines r → length (rest_at lines p) ≡ n → length (rest_at lines r) ≡ n → IsSameSpot p r
+same-spot : (lines : List ScriptLine) (n : ℕ) (p r : Place) → IsScript lines → Fits lines p → Fits lines r
+    → length (rest_at lines p) ≡ n → length (rest_at lines r) ≡ n → IsSameSpot p r
 same-spot lines zero p r script fits other one two = absurd (omega (arith, one, some-there lines p script fits))
 same-spot lines (suc n) p r script fits other one two =
-    either (λ q s back forth a b. same-spot lines n q s script back forth a b) (slice_get lines p.line) (slice_get lines r.line) refl refl
+    either (λ q s back forth a b. same-spot lines n q s script back forth a b) (slice_get lines p.line)
+    (slice_get lines r.line) refl refl
   where
     fewer : (q s : Place) → IsStepped lines q s → length (rest_at lines q) ≡ suc n → length (rest_at lines s) ≡ n
     fewer q s next count = ap length next.rest ∙ length-drop 1 (rest_at lines q) ∙ omega (arith, count)
 
     -- of two places with as much left, one is last only if the other is
-    ended : (q s t : Place) → IsLast lines q → IsStepped lines s t → length (rest_at lines q) ≡ suc n → length (rest_at lines s) ≡ suc n → ⊥
-    ended q s t last next a b = omega (arith, ap length last.rest, a, fewer s t next b, some-there lines t script next.fits)
+    ended : (q s t : Place) → IsLast lines q → IsStepped lines s t → length (rest_at lines q) ≡ suc n
+        → length (rest_at lines s) ≡ suc n → ⊥
+    ended q s t last next a b =
+        omega (arith, ap length last.rest, a, fewer s t next b, some-there lines t script next.fits)
 
-    either : ((q s : Place) → Fits lines q → Fits lines s → length (rest_at lines q) ≡ n → length (rest_at lines s) ≡ n → IsSameSpot q s)
+    either : ((q s : Place) → Fits lines q → Fits lines s → length (rest_at lines q) ≡ n → length (rest_at lines s) ≡ n
+        → IsSameSpot q s)
         → (a b : Option ScriptLine) → slice_get lines p.line ≡ a → slice_get lines r.line ≡ b → IsSameSpot p r
     either same None None here there =
         let a = last-there lines p script fits here in
@@ -376,30 +426,37 @@ same-spot lines (suc n) p r script fits other one two =
     either same (Some l) (Some m) here there =
         let mine = stepped lines p l (record { script = script; fits = fits; next = here }) in
         let yours = stepped lines r m (record { script = script; fits = other; next = there }) in
-        let spot = same mine.0 yours.0 mine.1.fits yours.1.fits (fewer p mine.0 mine.1 one) (fewer r yours.0 yours.1 two) in
+        let spot =
+        same mine.0 yours.0 mine.1.fits yours.1.fits (fewer p mine.0 mine.1 one) (fewer r yours.0 yours.1 two) in
         step-back lines p r mine.0 script fits other mine.1.step (step-spot lines r yours.0 mine.0 spot yours.1.step)
 
 same-place : (p r : Place) → IsSameSpot p r → p.accumulator ≡ r.accumulator → p ≡ r
-same-place p r spot accumulator = of_fields p.line p.done p.accumulator r.line r.done r.accumulator p.loops r.loops spot.line spot.done accumulator spot.loops
+same-place p r spot accumulator = of_fields p.line p.done p.accumulator r.line r.done r.accumulator p.loops r.loops
+    spot.line spot.done accumulator spot.loops
   where
     of_fields : (l d a m e b : ℕ) (xs ys : List OpenLoop) → l ≡ m → d ≡ e → a ≡ b → xs ≡ ys
-        → (let u : Place = record { line = l; done = d; loops = xs; accumulator = a } in u) ≡ (let v : Place = record { line = m; done = e; loops = ys; accumulator = b } in v)
+        → (let u : Place = record { line = l; done = d; loops = xs; accumulator = a } in u)
+        ≡ (let v : Place = record { line = m; done = e; loops = ys; accumulator = b } in v)
     of_fields l d a m e b xs ys one two three four = rw (one, two, three, four) refl
 
 -- two places that mean the same are the same
-pub one-place : (lines : List ScriptLine) (p r : Place) → IsScript lines → Fits lines p → Fits lines r → context_at lines p ≡ context_at lines r → p ≡ r
+pub one-place : (lines : List ScriptLine) (p r : Place) → IsScript lines → Fits lines p → Fits lines r
+    → context_at lines p ≡ context_at lines r → p ≡ r
 one-place lines p r script fits other same =
     let rests : rest_at lines p ≡ rest_at lines r = ap (λ c. c.rest) same in
-    same-place p r (same-spot lines (length (rest_at lines r)) p r script fits other (ap length rests) refl) (ap (λ c. c.accumulator) same)
+    same-place p r (same-spot lines (length (rest_at lines r)) p r script fits other (ap length rests) refl)
+    (ap (λ c. c.accumulator) same)
 
 -- each rest in which something is left is meant by a place that fits
-pub some-place : (lines : List ScriptLine) (k : ℕ) → IsScript lines → k < length (unrolled lines) → (p : Place) × Fits lines p × (rest_at lines p ≡ drop k (unrolled lines))
+pub some-place : (lines : List ScriptLine) (k : ℕ) → IsScript lines → k < length (unrolled lines)
+    → (p : Place) × Fits lines p × (rest_at lines p ≡ drop k (unrolled lines))
 some-place lines zero script some = (first_place, Fits-line lines 0 0 [] script (omega arith) tt, refl)
 some-place lines (suc k) script some =
     let before = some-place lines k script (omega (arith, some)) in
     of_line before (slice_get lines before.0.line) refl
   where
-    of_line : (b : (p : Place) × Fits lines p × (rest_at lines p ≡ drop k (unrolled lines))) → (o : Option ScriptLine) → slice_get lines b.0.line ≡ o
+    of_line : (b : (p : Place) × Fits lines p × (rest_at lines p ≡ drop k (unrolled lines))) → (o : Option ScriptLine)
+        → slice_get lines b.0.line ≡ o
         → (p : Place) × Fits lines p × (rest_at lines p ≡ drop (suc k) (unrolled lines))
     of_line b None here =
         let last = last-there lines b.0 script b.1 here in
@@ -407,5 +464,6 @@ some-place lines (suc k) script some =
     of_line b (Some l) here =
         let next = stepped lines b.0 l (record { script = script; fits = b.1; next = here }) in
         let next_count : k + 1 ≡ suc k = omega arith in
-        let rest : drop 1 (drop k (unrolled lines)) ≡ drop (suc k) (unrolled lines) = sym (drop-add k 1 (unrolled lines)) ∙ ap (λ j. drop j (unrolled lines)) next_count in
+        let rest : drop 1 (drop k (unrolled lines)) ≡ drop (suc k) (unrolled lines) =
+        sym (drop-add k 1 (unrolled lines)) ∙ ap (λ j. drop j (unrolled lines)) next_count in
         (next.0, next.1.fits, next.1.rest ∙ ap (drop 1) b.2 ∙ rest)

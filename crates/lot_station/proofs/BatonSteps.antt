@@ -6,15 +6,18 @@ single : (j : ℕ) (u : View) → get_elem? (newcomer ∷ []) j ≡ some u → (
 single zero u e = (refl, sym (some-injective _ _ e))
 single (suc j) u e = absurd (some-ne-none u (sym e))
 
-opened : (items : List Seen) (views : List View) (port : ℕ) (v : View) → v.fresh ≡ false → Kept items views → get_elem? views port ≡ some v → Opened items views
+opened : (items : List Seen) (views : List View) (port : ℕ) (v : View) → v.fresh ≡ false → Kept items views
+    → get_elem? views port ≡ some v → Opened items views
 opened items views port v old h at =
     ⊎_elim
     (λ (p : (items ≡ []) × (views ≡ newcomer ∷ [])).
-    let s = single port v (ap (λ l. get_elem? l port) (sym p.1) ∙ at) in absurd (true≢false (ap (λ (y : View). y.fresh) (sym s.1) ∙ old)))
+    let s = single port v (ap (λ l. get_elem? l port) (sym p.1) ∙ at) in
+    absurd (true≢false (ap (λ (y : View). y.fresh) (sym s.1) ∙ old)))
     (λ (p : Opened items views). p)
     h
 
-alone : (items : List Seen) (views : List View) (port : ℕ) (v : View) → v.fresh ≡ true → Kept items views → get_elem? views port ≡ some v → (items ≡ []) × (views ≡ newcomer ∷ [])
+alone : (items : List Seen) (views : List View) (port : ℕ) (v : View) → v.fresh ≡ true → Kept items views
+    → get_elem? views port ≡ some v → (items ≡ []) × (views ≡ newcomer ∷ [])
 alone items views port v new h at =
     ⊎_elim
     (λ (p : (items ≡ []) × (views ≡ newcomer ∷ [])). p)
@@ -28,23 +31,28 @@ some_same : (x y : Seen) → Some x ≡ Some y → x ≡ y
 some_same x y e = cc
 
 -- a pass that has nothing in its hands
-at_rest : (owner : ℕ → ℕ) (now : Seen) (out : Bool) (holder port : ℕ) (cs : List Claim) → AllFit owner now port cs → ViewFits owner now out holder port (resting cs)
+at_rest : (owner : ℕ → ℕ) (now : Seen) (out : Bool) (holder port : ℕ) (cs : List Claim) → AllFit owner now port cs
+    → ViewFits owner now out holder port (resting cs)
 at_rest owner now out holder port cs f = (refl, f, λ x e. absurd (none_some x e))
 
-at_here : (views : List View) (port : ℕ) (v w : View) → get_elem? views port ≡ some v → get_elem? (set views port w) port ≡ some w
+at_here : (views : List View) (port : ℕ) (v w : View) → get_elem? views port ≡ some v
+    → get_elem? (set views port w) port ≡ some w
 at_here [] port v w at = absurd (some-ne-none v (sym at))
 at_here (x ∷ xs) zero v w at = refl
 at_here (x ∷ xs) (suc port) v w at = at_here xs port v w at
 
 -- who holds nothing is not the holder
-not_here : (views : List View) (port : ℕ) (v u : View) (x : Seen) (j : ℕ) → v.held ≡ None → get_elem? views port ≡ some v → get_elem? views j ≡ some u → u.held ≡ Some x → j ≢ port
+not_here : (views : List View) (port : ℕ) (v u : View) (x : Seen) (j : ℕ) → v.held ≡ None
+    → get_elem? views port ≡ some v → get_elem? views j ≡ some u → u.held ≡ Some x → j ≢ port
 not_here views port v u x j empty at there held e =
-    none_some x (sym empty ∙ ap (λ (y : View). y.held) (some-injective _ _ (sym at ∙ ap (get_elem? views) (sym e) ∙ there)) ∙ held)
+    none_some x
+    (sym empty ∙ ap (λ (y : View). y.held) (some-injective _ _ (sym at ∙ ap (get_elem? views) (sym e) ∙ there)) ∙ held)
 
 pub begins : Kept [] (newcomer ∷ [])
 begins = inl (refl, refl)
 
-pub opens : (n port : ℕ) (v : View) (x : Seen) → v ≡ newcomer → Pushes Kept n port v x (λ w. w ≡ resting (all_actors x ∷ []))
+pub opens : (n port : ℕ) (v : View) (x : Seen) → v ≡ newcomer
+    → Pushes Kept n port v x (λ w. w ≡ resting (all_actors x ∷ []))
 opens n port v x is items views room h at =
     let w = resting (all_actors x ∷ []) in
     let first = alone items views port v (ap (λ (y : View). y.fresh) is) h at in
@@ -59,7 +67,8 @@ opens n port v x is items views room h at =
         ap (λ l. l ++ x ∷ []) first.0,
         (λ e. absurd (true≢false (sym e))),
         views_set (ViewFits (λ a. port) x false 0) views port w
-            (at_rest (λ a. port) x false 0 port (all_actors x ∷ []) ((sees_self 0 4294967296 x, λ a low high. refl), tt))
+            (at_rest (λ a. port) x false 0 port (all_actors x ∷ [])
+            ((sees_self 0 4294967296 x, λ a low high. refl), tt))
             (λ j u apart e. absurd (apart (zeroth j u e ∙ sym (zeroth port v at)))),
       ),
       refl,
@@ -68,17 +77,20 @@ opens n port v x is items views room h at =
 out_empty : (b : Bool) (now : Seen) (items : List Seen) → items ≡ content b now → b ≡ true → items ≡ []
 out_empty b now items e out = e ∙ ap (λ x. content x now) out
 
-pub gives_out : (port : ℕ) (v : View) (was : Seen) (c : Claim) → v ≡ holding was c → Learns Kept port v (λ items. items ≡ [])
+pub gives_out : (port : ℕ) (v : View) (was : Seen) (c : Claim) → v ≡ holding was c
+    → Learns Kept port v (λ items. items ≡ [])
 gives_out port v was c is items views h at =
     let o = opened items views port v (ap (λ (y : View). y.fresh) is) h at in
     let held = (o.6 port v at).2 was (ap (λ (y : View). y.held) is) in
     out_empty o.2 o.1 items o.4 held.0
 
-next_moved : (owner : ℕ → ℕ) (now x : Seen) (port : ℕ) (c : Claim) → ((a : ℕ) → c.from ≤ a → a < c.to → owner a ≡ port) → Next c now x → Moved owner now x port
+next_moved : (owner : ℕ → ℕ) (now x : Seen) (port : ℕ) (c : Claim) → ((a : ℕ) → c.from ≤ a → a < c.to → owner a ≡ port)
+    → Next c now x → Moved owner now x port
 next_moved owner now x port c mine next =
     ⊎_elim
     (λ (same : x.history ≡ now.history).
-    let m : Moved owner now x port = record { setting = next.0; rest = []; longer = same ∙ sym (append-nil now.history); others = λ a apart. refl } in m)
+    let m : Moved owner now x port =
+    record { setting = next.0; rest = []; longer = same ∙ sym (append-nil now.history); others = λ a apart. refl } in m)
     (λ (turn : (x.history ≡ now.history ++ c.from ∷ []) × (c.from < c.to)).
     let m : Moved owner now x port =
     record {
@@ -90,7 +102,8 @@ next_moved owner now x port c mine next =
     m)
     next.1
 
-pub gives : (n port : ℕ) (v : View) (x was : Seen) (c : Claim) → v ≡ holding was c → Next c was x → Pushes Kept n port v x (λ w. w ≡ gave v x)
+pub gives : (n port : ℕ) (v : View) (x was : Seen) (c : Claim) → v ≡ holding was c → Next c was x
+    → Pushes Kept n port v x (λ w. w ≡ gave v x)
 gives n port v x was c is next items views room h at =
     let o = opened items views port v (ap (λ (y : View). y.fresh) is) h at in
     let mine = o.6 port v at in
@@ -99,7 +112,8 @@ gives n port v x was c is next items views room h at =
     let m = next_moved o.0 o.1 x port c fits.1 (subst (λ y. Next c y x) held.2 next) in
     let w = gave v x in
     let now : ViewFits o.0 x false o.3 port w =
-    subst (λ (y : View). ViewFits o.0 x false o.3 port (gave y x)) (sym is) (at_rest o.0 x false o.3 port (claim c.from c.to x ∷ []) ((sees_self c.from c.to x, fits.1), tt)) in (
+    subst (λ (y : View). ViewFits o.0 x false o.3 port (gave y x)) (sym is)
+    (at_rest o.0 x false o.3 port (claim c.from c.to x ∷ []) ((sees_self c.from c.to x, fits.1), tt)) in (
       w,
       inr (
         o.0,
@@ -116,11 +130,13 @@ gives n port v x was c is next items views room h at =
       refl,
     )
 
-in_queue : (b : Bool) (now x : Seen) (items : List Seen) → x ∷ items ≡ content b now → (b ≡ false) × (x ≡ now) × (items ≡ [])
+in_queue : (b : Bool) (now x : Seen) (items : List Seen) → x ∷ items ≡ content b now
+    → (b ≡ false) × (x ≡ now) × (items ≡ [])
 in_queue true now x items e = absurd cc
 in_queue false now x items e = (refl, cc, cc)
 
-first_fits : (owner : ℕ → ℕ) (now : Seen) (port : ℕ) (cs : List Claim) → AllFit owner now port cs → AllFit owner now port (first_only cs)
+first_fits : (owner : ℕ → ℕ) (now : Seen) (port : ℕ) (cs : List Claim) → AllFit owner now port cs
+    → AllFit owner now port (first_only cs)
 first_fits owner now port [] f = tt
 first_fits owner now port (c ∷ cs) f = (f.0, tt)
 
@@ -140,12 +156,14 @@ takes port v old x items views h at =
         (λ _. (w, x, at_here views port v w at, refl)),
         views_set (ViewFits o.0 o.1 true port) views port w
             (refl, first_fits o.0 o.1 port v.claims mine.1, λ y e. (refl, refl, sym (some_same x y e) ∙ q.1))
-            (λ j u apart e. let theirs = o.6 j u e in (theirs.0, theirs.1, λ y f. absurd (true≢false (sym (theirs.2 y f).0 ∙ q.0)))),
+            (λ j u apart e. let theirs = o.6 j u e in
+            (theirs.0, theirs.1, λ y f. absurd (true≢false (sym (theirs.2 y f).0 ∙ q.0)))),
       ),
       (all_seen o.0 o.1 x port q.1 v.claims mine.1, refl),
     )
 
-pub deals : (port : ℕ) (v : View) (f t : ℕ) (s : Seen) → v ≡ resting (claim f t s ∷ []) → f < t → Forks Kept port v (all_but_first v) (first_actor v)
+pub deals : (port : ℕ) (v : View) (f t : ℕ) (s : Seen) → v ≡ resting (claim f t s ∷ []) → f < t
+    → Forks Kept port v (all_but_first v) (first_actor v)
 deals port v f t s is left_over items views h at =
     let o = opened items views port v (ap (λ (y : View). y.fresh) is) h at in
     let fits = (subst (λ (y : View). AllFit o.0 o.1 port y.claims) is (o.6 port v at).1).0 in
@@ -177,8 +195,10 @@ deals port v f t s is left_over items views h at =
       o.2,
       o.3,
       o.4,
-      (λ out. let h = o.5 out in let away = not_here views port v h.0 h.1 o.3 (ap (λ (y : View). y.held) is) at h.2 h.3 in (h.0, h.1, at_longer l (right ∷ []) o.3 h.0 (set_else views port o.3 left away ∙ h.2), h.3)),
-      λ j u e. ⊎_elim (λ (p : get_elem? l j ≡ some u). olds j u p) (λ (p : (j ≡ new) × (right ≡ u)). subst (ViewFits owner o.1 o.2 o.3 j) p.1 (fresh j p.0)) (at_end l right u j e),
+      (λ out. let h = o.5 out in let away = not_here views port v h.0 h.1 o.3 (ap (λ (y : View). y.held) is) at h.2
+          h.3 in (h.0, h.1, at_longer l (right ∷ []) o.3 h.0 (set_else views port o.3 left away ∙ h.2), h.3)),
+      λ j u e. ⊎_elim (λ (p : get_elem? l j ≡ some u). olds j u p) (λ (p : (j ≡ new) × (right ≡ u)).
+          subst (ViewFits owner o.1 o.2 o.3 j) p.1 (fresh j p.0)) (at_end l right u j e),
     )
 
 pub notes : (port : ℕ) (v : View) → v.fresh ≡ false → Forks Kept port v v (note_of v)
@@ -193,22 +213,28 @@ notes port v old items views h at =
       o.4,
       (λ out. let h = o.5 out in (h.0, h.1, at_longer (set views port v) (note_of v ∷ []) o.3 h.0 (ap (λ l. get_elem? l o.3) (set_again views port v at) ∙ h.2), h.3)),
       λ j u e. ⊎_elim
-          (λ (p : get_elem? (set views port v) j ≡ some u). o.6 j u (subst (λ l. get_elem? l j ≡ some u) (set_again views port v at) p))
+          (λ (p : get_elem? (set views port v) j ≡ some u).
+          o.6 j u (subst (λ l. get_elem? l j ≡ some u) (set_again views port v at) p))
           (λ (p : (j ≡ length (set views port v)) × (note_of v ≡ u)).
-          subst (ViewFits o.0 o.1 o.2 o.3 j) p.1 (at_rest o.0 o.1 o.2 o.3 j (note_of v).claims (all_noted o.0 o.1 port j v.claims mine.1)))
+          subst (ViewFits o.0 o.1 o.2 o.3 j) p.1
+          (at_rest o.0 o.1 o.2 o.3 j (note_of v).claims (all_noted o.0 o.1 port j v.claims mine.1)))
           (at_end (set views port v) (note_of v) u j e),
     )
 
-pub joins : (port : ℕ) (v : View) (other : ℕ) (u : View) → v.fresh ≡ false → u.held ≡ None → Merges Kept port v other u (together v u) (resting [])
+pub joins : (port : ℕ) (v : View) (other : ℕ) (u : View) → v.fresh ≡ false → u.held ≡ None
+    → Merges Kept port v other u (together v u) (resting [])
 joins port v other u old empty items views h at apart there =
     let o = opened items views port v old h at in
     let mine = o.6 port v at in
     let both = together v u in
-    let was : get_elem? views other ≡ some u = ⊎_elim (λ (x : (other ≡ port) × (both ≡ u)). absurd (apart x.0)) (λ (x : (other ≢ port) × (get_elem? views other ≡ some u)). x.1) (at_set views port other both u there) in
+    let was : get_elem? views other ≡ some u = ⊎_elim (λ (x : (other ≡ port) × (both ≡ u)). absurd (apart x.0))
+    (λ (x : (other ≢ port) × (get_elem? views other ≡ some u)). x.1) (at_set views port other both u there) in
     let theirs = o.6 other u was in
     let owner : ℕ → ℕ = λ a. if o.0 a == other then port else o.0 a in
-    let of_other : (a : ℕ) → o.0 a ≡ other → owner a ≡ port = λ a e. ap (λ (b : Bool). if b then port else o.0 a) (eq-eqb (o.0 a) other e) in
-    let of_else : (a : ℕ) → o.0 a ≢ other → owner a ≡ o.0 a = λ a e. ap (λ (b : Bool). if b then port else o.0 a) (ne_eqb (o.0 a) other e) in
+    let of_other : (a : ℕ) → o.0 a ≡ other → owner a ≡ port =
+    λ a e. ap (λ (b : Bool). if b then port else o.0 a) (eq-eqb (o.0 a) other e) in
+    let of_else : (a : ℕ) → o.0 a ≢ other → owner a ≡ o.0 a =
+    λ a e. ap (λ (b : Bool). if b then port else o.0 a) (ne_eqb (o.0 a) other e) in
     let of_port : (a : ℕ) → o.0 a ≡ port → owner a ≡ port = λ a e. of_else a (λ x. apart (sym x ∙ e)) ∙ e in
     let joined : ViewFits owner o.1 o.2 o.3 port both =
     (mine.0, all_both owner o.1 port v.claims u.claims (all_owned o.0 owner o.1 port port of_port v.claims mine.1) (all_owned o.0 owner o.1 other port of_other u.claims theirs.1), mine.2) in
@@ -216,7 +242,8 @@ joins port v other u old empty items views h at apart there =
     λ out.
     let h = o.5 out in
     let away = not_here views other u h.0 h.1 o.3 empty was h.2 h.3 in
-    let there' : get_elem? (set (set views port both) other (resting [])) o.3 ≡ get_elem? (set views port both) o.3 = set_else (set views port both) other o.3 (resting []) away in
+    let there' : get_elem? (set (set views port both) other (resting [])) o.3 ≡ get_elem? (set views port both) o.3 =
+    set_else (set views port both) other o.3 (resting []) away in
     dite (ℕ_discrete o.3 port)
     (λ e.
     let same : h.0 ≡ v = some-injective _ _ (sym h.2 ∙ ap (get_elem? views) e ∙ at) in
@@ -229,10 +256,12 @@ joins port v other u old empty items views h at apart there =
       o.3,
       o.4,
       held,
-      views_set (ViewFits owner o.1 o.2 o.3) (set views port both) other (resting []) (at_rest owner o.1 o.2 o.3 other [] tt)
+      views_set (ViewFits owner o.1 o.2 o.3) (set views port both) other (resting [])
+          (at_rest owner o.1 o.2 o.3 other [] tt)
           (λ j y apart' e.
           ⊎_elim
-          (λ (p : (j ≡ port) × (both ≡ y)). subst (λ (z : ℕ × View). ViewFits owner o.1 o.2 o.3 z.0 z.1) (λ i. (sym p.0 i, p.1 i)) joined)
+          (λ (p : (j ≡ port) × (both ≡ y)).
+          subst (λ (z : ℕ × View). ViewFits owner o.1 o.2 o.3 z.0 z.1) (λ i. (sym p.0 i, p.1 i)) joined)
           (λ (p : (j ≢ port) × (get_elem? views j ≡ some y)).
           let his = o.6 j y p.1 in
           (his.0, all_owned o.0 owner o.1 j j (λ a is_j. of_else a (λ x. apart' (sym is_j ∙ x)) ∙ is_j) y.claims his.1, his.2))

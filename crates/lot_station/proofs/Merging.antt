@@ -7,7 +7,8 @@ pub head_first : (l : List Holder) (x : Holder) → 0 < length l → x ≡ get_o
 head_first [] x some e = absurd (omega arith)
 head_first (y ∷ ys) x some e = ap (λ z. z ∷ ys) (sym e)
 
-pub moves_on : (all xs rest rest' : List Holder) (y : Holder) → all ≡ xs ++ rest → rest ≡ y ∷ rest' → all ≡ (xs ++ y ∷ []) ++ rest'
+pub moves_on : (all xs rest rest' : List Holder) (y : Holder) → all ≡ xs ++ rest → rest ≡ y ∷ rest'
+    → all ≡ (xs ++ y ∷ []) ++ rest'
 moves_on all xs rest rest' y is step = is ∙ ap (λ l. xs ++ l) step ∙ sym (append_assoc xs (y ∷ []) rest')
 
 pub all_taken : (all xs rest : List Holder) → all ≡ xs ++ rest → length rest ≡ 0 → all ≡ xs
@@ -24,7 +25,8 @@ pub record Has (parts parts' parts'' turns quanta ticks : ℕ) (seats : List Hol
   pub quanta_is : quanta ≡ sum_by (λ s. s.quanta) seats
   pub ticks_is : ticks ≡ sum_by (λ s. s.ticks) seats
 
-pub has_one : (p p' p'' t q k : ℕ) (s : Holder) → p ≡ 1 → p' ≡ 1 → p'' ≡ 1 → t ≡ s.turns → q ≡ s.quanta → k ≡ s.ticks → Has p p' p'' t q k (s ∷ [])
+pub has_one : (p p' p'' t q k : ℕ) (s : Holder) → p ≡ 1 → p' ≡ 1 → p'' ≡ 1 → t ≡ s.turns → q ≡ s.quanta → k ≡ s.ticks
+    → Has p p' p'' t q k (s ∷ [])
 has_one p p' p'' t q k s one one' one'' turns quanta ticks =
     record {
       parts_is = one;
@@ -35,14 +37,17 @@ has_one p p' p'' t q k s one one' one'' turns quanta ticks =
       ticks_is = omega (arith, ticks);
     }
 
-pub has_more : (p p' p'' t q k n n' n'' u v w r r' r'' x y z : ℕ) (done : List Holder) (s : Holder) → Has p p' p'' t q k done → Has n n' n'' u v w (s ∷ [])
-    → r ≡ p + n → r' ≡ p' + n' → r'' ≡ p'' + n'' → x ≡ t + u → y ≡ q + v → z ≡ k + w → Has r r' r'' x y z (done ++ s ∷ [])
+pub has_more : (p p' p'' t q k n n' n'' u v w r r' r'' x y z : ℕ) (done : List Holder) (s : Holder)
+    → Has p p' p'' t q k done → Has n n' n'' u v w (s ∷ [])
+    → r ≡ p + n → r' ≡ p' + n' → r'' ≡ p'' + n'' → x ≡ t + u → y ≡ q + v → z ≡ k + w
+    → Has r r' r'' x y z (done ++ s ∷ [])
 has_more p p' p'' t q k n n' n'' u v w r r' r'' x y z done s have one a b c d e f =
     record {
       parts_is = omega (arith, a, have.parts_is, one.parts_is, length-append done (s ∷ []));
       parts'_is = omega (arith, b, have.parts'_is, one.parts'_is, length-append done (s ∷ []));
       parts''_is = omega (arith, c, have.parts''_is, one.parts''_is, length-append done (s ∷ []));
       turns_is = omega (arith, d, have.turns_is, one.turns_is, sum_by-append (λ (h : Holder). h.turns) done (s ∷ []));
-      quanta_is = omega (arith, e, have.quanta_is, one.quanta_is, sum_by-append (λ (h : Holder). h.quanta) done (s ∷ []));
+      quanta_is =
+          omega (arith, e, have.quanta_is, one.quanta_is, sum_by-append (λ (h : Holder). h.quanta) done (s ∷ []));
       ticks_is = omega (arith, f, have.ticks_is, one.ticks_is, sum_by-append (λ (h : Holder). h.ticks) done (s ∷ []));
     }

@@ -107,7 +107,8 @@ pub(crate) fn add_play(all: &mut AllFigures, program: &Program, system: &mut Sys
     requires many { AreMany program.now all.old }
     requires over { IsOver system.old order.now }
     ensures same { system.new ≡ system.old }
-    ensures added { (subject : AnySubject) → AreChanged (λ n. figures_after (told_at_end system.old order.now subject n))
+    ensures added { (subject : AnySubject) →
+        AreChanged (λ n. figures_after (told_at_end system.old order.now subject n))
         (figures_in all.old subject) (figures_in all.new subject) }
 {
     let ending = ending_in(program, system, order);

@@ -43,7 +43,7 @@ pub use Rattle.lot_text.specs.Alone.{new_name_alone}
 pub use Rattle.lot_text.specs.Faults.{Fails, Gives, IsFaultOf, fault_on}
 pub use Rattle.lot_text.specs.Numbers.{within_64_bits}
 pub use Rattle.lot_text.specs.ReadingFields.{reading_of}
-pub use Rattle.lot_text.specs.Readings.{IsBody, IsReading, after_header, argument_count, pairs_added, phrase_at}
+pub use Rattle.lot_text.specs.Readings.{IsReading, after_header, argument_count, pairs_added, phrase_at}
 pub use Rattle.lot_text.specs.Tokens.{words_of}
 pub use Rattle.lot_text.specs.declared.fault.LineFault.{LineFault}
 pub use Rattle.lot_text.specs.declared.fault.LineFault.TheVariants.{Memory, Refused}

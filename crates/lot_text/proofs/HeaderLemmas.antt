@@ -9,7 +9,8 @@ use Rattle.lot_text.proofs.FaultLemmas.{Fails-then}
 pub early-place : (r : Reading) (word : HeaderWord) → is_late r word ≡ false → r.place < header_place word
 early-place r word early =
     let passed = nat_le (header_place word) r.place in
-    leb-false (header_place word) r.place (or_parts passed (is_given r word) (or_parts (passed || is_given r word) (is_after_seed r word) early).0).0
+    leb-false (header_place word) r.place
+    (or_parts passed (is_given r word) (or_parts (passed || is_given r word) (is_after_seed r word) early).0).0
 
 -- so it isn't the first line's
 pub early-above : (r : Reading) (word : HeaderWord) → is_late r word ≡ false → 0 < header_place word
@@ -17,7 +18,8 @@ early-above r word early = omega (arith, early-place r word early)
 
 -- an early `processors` comes before `seed`
 pub early-unseeded : (r : Reading) → is_late r header.Processors ≡ false → r.seeds ≡ None
-early-unseeded r early = none-from r.seeds (or_parts (nat_le 1 r.place || is_given r header.Processors) (is_some r.seeds) early).1
+early-unseeded r early =
+    none-from r.seeds (or_parts (nat_le 1 r.place || is_given r header.Processors) (is_some r.seeds) early).1
   where
     none-from : (o : Option (List ℕ)) → is_some o ≡ false → o ≡ None
     none-from None is = refl
@@ -26,11 +28,14 @@ early-unseeded r early = none-from r.seeds (or_parts (nat_le 1 r.place || is_giv
 -- ---- the reading after a line
 
 -- an early line fails as its arguments do
-pub header-fails : (fault : LineFault) (r : Reading) (word : HeaderWord) (tokens : List (List ℕ)) → is_late r word ≡ false
+pub header-fails : (fault : LineFault) (r : Reading) (word : HeaderWord) (tokens : List (List ℕ))
+    → is_late r word ≡ false
     → Fails fault (header_line r word tokens) → Fails fault (header_in_order r word tokens)
-header-fails fault r word tokens early fails = rw early (Fails-then fault (header_line r word tokens) (λ after. Ok (with_header_word after word)) fails)
+header-fails fault r word tokens early fails =
+    rw early (Fails-then fault (header_line r word tokens) (λ after. Ok (with_header_word after word)) fails)
 
 -- if they are read, its word is one of those given
-pub header-read : (r after : Reading) (word : HeaderWord) (tokens : List (List ℕ)) → is_late r word ≡ false → header_line r word tokens ≡ Ok after
+pub header-read : (r after : Reading) (word : HeaderWord) (tokens : List (List ℕ)) → is_late r word ≡ false
+    → header_line r word tokens ≡ Ok after
     → header_in_order r word tokens ≡ Ok (with_header_word after word)
 header-read r after word tokens early read = rw (early, read) refl

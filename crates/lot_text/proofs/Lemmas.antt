@@ -7,6 +7,6 @@ pub use Rattle.lot_text.proofs.HeaderLemmas.{early-above, header-fails, header-r
 pub use Rattle.lot_text.proofs.NameLemmas.{mutex-line, port-line, script-full, script-named, script-refused, ticket-named, ticket-refused}
 pub use Rattle.lot_text.proofs.NumberLemmas.{digits_value_after-past, within_64_bits-of}
 pub use Rattle.lot_text.proofs.PhraseLemmas.{fewer-tokens, phrase-read, phrases-end, phrases-fail, phrases-go_on}
-pub use Rattle.lot_text.proofs.ReadingLemmas.{limits-read, naming-full, naming-read, timed-read, with_mutexes, with_ports, with_schedule, with_ticket_names, with_timed}
+pub use Rattle.lot_text.proofs.ReadingLemmas.{limits-read, naming-full, naming-read, timed-read, with_schedule, with_timed}
 pub use Rattle.lot_text.proofs.RunLemmas.{All-actors_of, actors_of-more, each_pair-none, pairs_added-read, runs_line-none, runs_line-odd, runs_line-pairs, runs_line-without}
 pub use Rattle.lot_text.proofs.TokenLemmas.{ignored-next, parts-alone, parts-end, parts-next, tokens_of-words}

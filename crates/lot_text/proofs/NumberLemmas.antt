@@ -3,7 +3,8 @@ use Rattle.lot_text.proofs.Common.{Bool, List, None, Some, ap, arith, digit_valu
 
 -- a number of 64 bits is within them
 pub within_64_bits-of : (n : ℕ) → n < 2 ^ 64 → Some n ≡ within_64_bits n
-within_64_bits-of n small = let within : nat_le n (2 ^ 64 - 1) ≡ true = le-leb n (2 ^ 64 - 1) (omega (arith, small)) in rw within refl
+within_64_bits-of n small = let within : nat_le n (2 ^ 64 - 1) ≡ true = le-leb n (2 ^ 64 - 1) (omega (arith, small)) in
+    rw within refl
 
 -- a larger one isn't
 within_64_bits-past : (n : ℕ) → 2 ^ 64 - 1 < n → None ≡ within_64_bits n
@@ -26,5 +27,7 @@ digits_value_after-grows n (d ∷ ds) = omega (arith, digits_value_after-grows (
 pub digits_value_after-past : (n i all : ℕ) (ds : List ℕ) → i < length ds → digits_value_after 10 n (drop i ds) ≡ all
     → None ≡ within_64_bits (n * 10 + digit_value (get_or ds i 0)) → None ≡ within_64_bits all
 digits_value_after-past n i all ds within read past =
-    let next : digits_value_after 10 (n * 10 + digit_value (get_or ds i 0)) (drop (suc i) ds) ≡ all = sym (ap (λ more. digits_value_after 10 n more) (drop-cons ds i 0 within)) ∙ read in
-    within_64_bits-past all (omega (arith, large_from (n * 10 + digit_value (get_or ds i 0)) past, digits_value_after-grows (n * 10 + digit_value (get_or ds i 0)) (drop (suc i) ds), next))
+    let next : digits_value_after 10 (n * 10 + digit_value (get_or ds i 0)) (drop (suc i) ds) ≡ all =
+    sym (ap (λ more. digits_value_after 10 n more) (drop-cons ds i 0 within)) ∙ read in
+    within_64_bits-past all
+    (omega (arith, large_from (n * 10 + digit_value (get_or ds i 0)) past, digits_value_after-grows (n * 10 + digit_value (get_or ds i 0)) (drop (suc i) ds), next))

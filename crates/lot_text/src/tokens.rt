@@ -1,6 +1,7 @@
 //! The tokens of a line.
 ghost use Rattle.std.specs.Prelude.{◌≡◌, ◌≢◌, ◌==◌, ◌<◌, ◌≤◌, ◌%◌, ◌&&◌, ◌||◌, ◌↔◌, [], ◌∷◌};
-ghost use Rattle.std.specs.Prelude.{IfSome, IsTrue, MatchOption, MatchResult, drop, false, length, nat_le, not, take, true};
+ghost use Rattle.std.specs.Prelude.{IfSome, IsTrue, MatchOption, MatchResult, drop};
+ghost use Rattle.std.specs.Prelude.{false, length, nat_le, not, take, true};
 ghost use Rattle.std.specs.List.{prefix_len};
 ghost use Rattle.lot_simulation.specs.Lines as lines;
 ghost use Rattle.lot_text.specs.Tokens.{words_of};

@@ -12,7 +12,8 @@ pub record IsNarrowed (ws : List ℕ) (number height level block rest : ℕ) : T
   pub reached : number < sum (take ((block + 1) * 2 ^ level) ws)
 
 -- at first that is every place that may have a weight
-pub IsNarrowed_reach : (ws : List ℕ) (number height : ℕ) → number < sum ws → sum (take (2 ^ height) ws) ≡ sum ws → IsNarrowed ws number height height 0 number
+pub IsNarrowed_reach : (ws : List ℕ) (number height : ℕ) → number < sum ws → sum (take (2 ^ height) ws) ≡ sum ws
+    → IsNarrowed ws number height height 0 number
 IsNarrowed_reach ws number height drawn all = record {
   inside = omega arith;
   within = omega arith;
@@ -21,11 +22,13 @@ IsNarrowed_reach ws number height drawn all = record {
 }
 
 -- what is left to be passed is less than the sum of all
-pub rest-within : (ws : List ℕ) (number height level block rest : ℕ) → number < sum ws → IsNarrowed ws number height level block rest → rest < sum ws
+pub rest-within : (ws : List ℕ) (number height level block rest : ℕ) → number < sum ws
+    → IsNarrowed ws number height level block rest → rest < sum ws
 rest-within ws number height level block rest drawn narrowed = omega (arith, narrowed.passed)
 
 -- ---- one step down, from a block of 2 ^ upper places to one of its halves, of which the left one has twice its number
-module _ (ws sums : List ℕ) (number height upper level block rest : ℕ) (next : upper ≡ level + 1) (narrowed : IsNarrowed ws number height upper block rest) where
+module _ (ws sums : List ℕ) (number height upper level block rest : ℕ) (next : upper ≡ level + 1)
+    (narrowed : IsNarrowed ws number height upper block rest) where
   twice : 2 ^ upper ≡ 2 * 2 ^ level
   twice = rw (next, add-one) (omega (arith, pow-suc 2 level))
 
@@ -52,11 +55,13 @@ module _ (ws sums : List ℕ) (number height upper level block rest : ℕ) (next
   pub IsNarrowed_short : length ws < (block * 2 + 1) * 2 ^ level → IsNarrowed ws number height level (block * 2) rest
   IsNarrowed_short short = in_left (
       let all : take ((block * 2 + 1) * 2 ^ level) ws ≡ ws = take_all ((block * 2 + 1) * 2 ^ level) ws (omega arith) in
-      let more : sum (take ((block + 1) * 2 ^ upper) ws) ≤ sum ws = sum_by-take-le (λ x. x) ws ((block + 1) * 2 ^ upper) in
+      let more : sum (take ((block + 1) * 2 ^ upper) ws) ≤ sum ws =
+      sum_by-take-le (λ x. x) ws ((block + 1) * 2 ^ upper) in
       rw all (omega (arith, narrowed.reached, more))
       )
 
-  module _ (held : ArePartialSumsAt ws sums level) (whole : (block * 2 + 1) * 2 ^ level ≤ length ws) (left : ℕ) (is_left : left ≡ get_or sums ((block * 2 + 1) * 2 ^ level - 1) 0) where
+  module _ (held : ArePartialSumsAt ws sums level) (whole : (block * 2 + 1) * 2 ^ level ≤ length ws) (left : ℕ)
+      (is_left : left ≡ get_or sums ((block * 2 + 1) * 2 ^ level - 1) 0) where
     -- the partial sum of the left half takes the sum before it to the sum up to its end
     left_half : sum (take (block * 2 * 2 ^ level) ws) + left ≡ sum (take ((block * 2 + 1) * 2 ^ level) ws)
     left_half =
@@ -83,7 +88,8 @@ module _ (ws sums : List ℕ) (number height upper level block rest : ℕ) (next
 -- ---- which blocks are whole
 -- a block ends no later than n if its number is less than the number of whole blocks among n places
 pub whole-block : (n level block : ℕ) → block < n / 2 ^ level → (block + 1) * 2 ^ level ≤ n
-whole-block n level block few = omega (arith, shr_split n level, mul-le-mul_right {m = block + 1} {n = n / 2 ^ level} (2 ^ level) (omega arith))
+whole-block n level block few =
+    omega (arith, shr_split n level, mul-le-mul_right {m = block + 1} {n = n / 2 ^ level} (2 ^ level) (omega arith))
 
 -- and else it ends later
 pub short-block : (n level block : ℕ) → n / 2 ^ level ≤ block → n < (block + 1) * 2 ^ level
@@ -103,7 +109,8 @@ module _ (ws : List ℕ) (number height block rest : ℕ) (narrowed : IsNarrowed
   }
 
 -- no place from the length on is the first above a number, since the running sum grows no more
-length-from_IsFirstAbove : (ws : List ℕ) (number place : ℕ) → place ≤ length ws → IsFirstAbove ws number place → sum (take place ws) ≤ number → place < length ws
+length-from_IsFirstAbove : (ws : List ℕ) (number place : ℕ) → place ≤ length ws → IsFirstAbove ws number place
+    → sum (take place ws) ≤ number → place < length ws
 length-from_IsFirstAbove ws number place within found passed = elim (cases_lt place (length ws)) [
   | inl below ↦ below
   | inr past ↦
@@ -113,8 +120,10 @@ length-from_IsFirstAbove ws number place within found passed = elim (cases_lt pl
 ]
 
 -- the walk from a list's first weight on, if those before it add up to `before`
-first_above_from : (ws : List ℕ) (before number place : ℕ) → place < length ws → number < before + sum (take (suc place) ws)
-    → ((k : ℕ) → k < place → before + sum (take (suc k) ws) ≤ number) → first_above number (running_sums before ws) ≡ place
+first_above_from : (ws : List ℕ) (before number place : ℕ) → place < length ws
+    → number < before + sum (take (suc place) ws)
+    → ((k : ℕ) → k < place → before + sum (take (suc k) ws) ≤ number)
+    → first_above number (running_sums before ws) ≡ place
 first_above_from [] before number place within above first = absurd (omega arith)
 first_above_from (w ∷ ws) before number zero within above first = rw (lt-ltb number (before + w) (omega arith)) refl
 first_above_from (w ∷ ws) before number (suc place) within above first =
@@ -122,13 +131,16 @@ first_above_from (w ∷ ws) before number (suc place) within above first =
     let more : (k : ℕ) → sum (take (suc k) (w ∷ ws)) ≡ w + sum (take k ws) = λ k. sum_by-cons (λ x. x) w (take k ws) in
     let passed : before + w ≤ number = omega (arith, first 0 (omega arith)) in
     rw (le-ltb number (before + w) passed) (
-    ap suc (first_above_from ws (before + w) number place (omega arith) (omega (arith, above, more (suc place))) (λ k earlier. omega (arith, first (suc k) (omega arith), more (suc k))))
+    ap suc (first_above_from ws (before + w) number place (omega arith) (omega (arith, above, more (suc place)))
+    (λ k earlier. omega (arith, first (suc k) (omega arith), more (suc k))))
     )
 
 -- the first place above a number is where a walk of the running sums stops
-pub first_above-running_sums : (ws : List ℕ) (number place : ℕ) → place < length ws → IsFirstAbove ws number place → first_above number (running_sums 0 ws) ≡ place
+pub first_above-running_sums : (ws : List ℕ) (number place : ℕ) → place < length ws → IsFirstAbove ws number place
+    → first_above number (running_sums 0 ws) ≡ place
 first_above-running_sums ws number place within found =
-    first_above_from ws 0 number place within (omega (arith, found.above)) (λ k earlier. omega (arith, found.first k earlier))
+    first_above_from ws 0 number place within (omega (arith, found.above))
+    (λ k earlier. omega (arith, found.first k earlier))
 
 -- what the end of a descent says of its place
 pub record IsDrawn (ws : List ℕ) (number place : ℕ) : Type 0 where
@@ -136,10 +148,12 @@ pub record IsDrawn (ws : List ℕ) (number place : ℕ) : Type 0 where
   pub first : IsFirstAbove ws number place
   pub walk : place ≡ first_above number (running_sums 0 ws)
 
-pub IsDrawn-from_IsNarrowed : (ws : List ℕ) (number height level block rest : ℕ) → level ≡ 0 → IsNarrowed ws number height level block rest → IsDrawn ws number block
+pub IsDrawn-from_IsNarrowed : (ws : List ℕ) (number height level block rest : ℕ) → level ≡ 0
+    → IsNarrowed ws number height level block rest → IsDrawn ws number block
 IsDrawn-from_IsNarrowed ws number height level block rest end narrowed =
     let last = rw end at narrowed in
     let one = one-place ws number height block rest last in
     let found = IsFirstAbove-from_IsNarrowed ws number height block rest last in
-    let within = length-from_IsFirstAbove ws number block (rw one at last.within) found (omega (arith, rw one at last.passed)) in
+    let within =
+    length-from_IsFirstAbove ws number block (rw one at last.within) found (omega (arith, rw one at last.passed)) in
     record { within = within; first = found; walk = sym (first_above-running_sums ws number block within found) }

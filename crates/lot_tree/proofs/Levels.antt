@@ -17,7 +17,8 @@ same_level (suc k) (suc m) a b e =
     ap suc (same_level k m a b (omega arith))
 
 -- a partial sum stays if the weight that is written is not one of its own
-IsPartialSum-set_outside : (ws sums : List ℕ) (i w from to : ℕ) → i < length ws → from ≤ to → (i < from) ⊎ (to ≤ i) → IsPartialSum ws sums from to → IsPartialSum (set ws i w) sums from to
+IsPartialSum-set_outside : (ws sums : List ℕ) (i w from to : ℕ) → i < length ws → from ≤ to → (i < from) ⊎ (to ≤ i)
+    → IsPartialSum ws sums from to → IsPartialSum (set ws i w) sums from to
 IsPartialSum-set_outside ws sums i w from to place ordered (inl before) held = record {
   adds = omega (arith, held.adds, sum-take-set ws i w from place before, sum-take-set ws i w to place (omega arith));
 }
@@ -26,28 +27,33 @@ IsPartialSum-set_outside ws sums i w from to place ordered (inr after) held = re
 }
 
 -- a partial sum over the written weight, with the one weight taken out and the other put in
-IsPartialSum-set_inside : (ws sums : List ℕ) (i w from to : ℕ) → i < length ws → from ≤ i → i < to → to ≤ length sums → IsPartialSum ws sums from to
+IsPartialSum-set_inside : (ws sums : List ℕ) (i w from to : ℕ) → i < length ws → from ≤ i → i < to → to ≤ length sums
+    → IsPartialSum ws sums from to
     → IsPartialSum (set ws i w) (set sums (to - 1) (get_or sums (to - 1) 0 - get_or ws i 0 + w)) from to
 IsPartialSum-set_inside ws sums i w from to place after before kept held =
     let within : to - 1 < length sums = omega arith in record {
-      adds = rw get_or-set_same (omega (arith, held.adds, weight-le ws i from to place after before, sum-take-set ws i w to place before, sum-take-set_past ws i w from after));
+      adds = rw get_or-set_same
+          (omega (arith, held.adds, weight-le ws i from to place after before, sum-take-set ws i w to place before, sum-take-set_past ws i w from after));
     }
 
 -- a partial sum stays if another is written
-IsPartialSum-set_other : (ws sums : List ℕ) (at value from to : ℕ) → to - 1 ≢ at → IsPartialSum ws sums from to → IsPartialSum ws (set sums at value) from to
+IsPartialSum-set_other : (ws sums : List ℕ) (at value from to : ℕ) → to - 1 ≢ at → IsPartialSum ws sums from to
+    → IsPartialSum ws (set sums at value) from to
 IsPartialSum-set_other ws sums at value from to other held = record { adds = rw get_or-set_other held.adds }
 
 -- ---- the blocks of one level: `size` is the number of places in each
 -- a block has no place i if its number is not that of the block of i
 block_apart : (size i block : ℕ) → 0 < size → block ≢ i / size → (i < block * size) ⊎ ((block + 1) * size ≤ i)
 block_apart size i block some other = elim (cases_lt block (i / size)) [
-  | inl below ↦ inr (omega (arith, div-add-mod' i size, mul-le-mul_right {m = block + 1} {n = i / size} size (omega arith)))
+  | inl below ↦
+      inr (omega (arith, div-add-mod' i size, mul-le-mul_right {m = block + 1} {n = i / size} size (omega arith)))
   | inr above ↦ inl (omega (arith, div-add-mod' i size, mod_below i size some, mul-le-mul_right {m = i / size + 1} {n = block} size (omega arith)))
 ]
 
 -- the block of i has the place i
 block_around : (size i : ℕ) → 0 < size → (i / size * size ≤ i) × (i < (i / size + 1) * size)
-block_around size i some = (omega (arith, div-add-mod' i size), omega (arith, div-add-mod' i size, mod_below i size some))
+block_around size i some =
+    (omega (arith, div-add-mod' i size), omega (arith, div-add-mod' i size, mod_below i size some))
 
 -- each block that is not empty ends past 0
 ends_past_zero : (size block : ℕ) → 0 < size → 0 < (block + 1) * size
@@ -65,30 +71,38 @@ end_apart size a b some other same =
 -- the blocks of two levels end at two places
 level_apart : (k m a b : ℕ) → k ≢ m → (2 * a + 1) * 2 ^ k - 1 ≢ (2 * b + 1) * 2 ^ m - 1
 level_apart k m a b other same =
-    other (same_level k m a b (omega (arith, ends_past_zero (2 ^ k) (2 * a) (pow_pos k), ends_past_zero (2 ^ m) (2 * b) (pow_pos m))))
+    other (same_level k m a b
+    (omega (arith, ends_past_zero (2 ^ k) (2 * a) (pow_pos k), ends_past_zero (2 ^ m) (2 * b) (pow_pos m))))
 
 module _ (ws sums : List ℕ) (i w level : ℕ) (place : i < length ws) (held : ArePartialSumsAt ws sums level) where
   -- if the block of i keeps no partial sum, none changes
-  ArePartialSumsAt-set_skipped : ((pair : ℕ) → 2 * pair ≡ i / 2 ^ level → length ws < (2 * pair + 1) * 2 ^ level) → ArePartialSumsAt (set ws i w) sums level
+  ArePartialSumsAt-set_skipped : ((pair : ℕ) → 2 * pair ≡ i / 2 ^ level → length ws < (2 * pair + 1) * 2 ^ level)
+      → ArePartialSumsAt (set ws i w) sums level
   ArePartialSumsAt-set_skipped none pair whole =
       let kept : (2 * pair + 1) * 2 ^ level ≤ length ws = omega (arith, length-set ws i w) in
       let other : 2 * pair ≢ i / 2 ^ level = λ same. absurd (omega (arith, none pair same)) in
-      IsPartialSum-set_outside ws sums i w _ _ place (omega arith) (block_apart (2 ^ level) i (2 * pair) (pow_pos level) other) (held pair kept)
+      IsPartialSum-set_outside ws sums i w _ _ place (omega arith)
+      (block_apart (2 ^ level) i (2 * pair) (pow_pos level) other) (held pair kept)
 
   -- if it keeps one, that one changes
   ArePartialSumsAt-set_written : (pair : ℕ) → 2 * pair ≡ i / 2 ^ level → (2 * pair + 1) * 2 ^ level ≤ length sums
-      → ArePartialSumsAt (set ws i w) (set sums ((2 * pair + 1) * 2 ^ level - 1) (get_or sums ((2 * pair + 1) * 2 ^ level - 1) 0 - get_or ws i 0 + w)) level
+      → ArePartialSumsAt (set ws i w) (set sums ((2 * pair + 1) * 2 ^ level - 1)
+      (get_or sums ((2 * pair + 1) * 2 ^ level - 1) 0 - get_or ws i 0 + w)) level
   ArePartialSumsAt-set_written pair its kept other whole =
       let whole_before : (2 * other + 1) * 2 ^ level ≤ length ws = omega (arith, length-set ws i w) in
       let around = block_around (2 ^ level) i (pow_pos level) in
       elim (cases_eq other pair) [
-        | inl same ↦ rw same (IsPartialSum-set_inside ws sums i w (2 * pair * 2 ^ level) ((2 * pair + 1) * 2 ^ level) place (rw its around.0) (rw its around.1) kept (held pair (rw (← same) whole_before)))
-        | inr apart ↦ IsPartialSum-set_other (set ws i w) sums _ _ _ _ (end_apart (2 ^ level) other pair (pow_pos level) apart)
-            (IsPartialSum-set_outside ws sums i w _ _ place (omega arith) (block_apart (2 ^ level) i (2 * other) (pow_pos level) (λ same. apart (omega arith))) (held other whole_before))
+        | inl same ↦ rw same (IsPartialSum-set_inside ws sums i w (2 * pair * 2 ^ level) ((2 * pair + 1) * 2 ^ level)
+            place (rw its around.0) (rw its around.1) kept (held pair (rw (← same) whole_before)))
+        | inr apart ↦
+            IsPartialSum-set_other (set ws i w) sums _ _ _ _ (end_apart (2 ^ level) other pair (pow_pos level) apart)
+            (IsPartialSum-set_outside ws sums i w _ _ place (omega arith) (block_apart (2 ^ level) i (2 * other)
+            (pow_pos level) (λ same. apart (omega arith))) (held other whole_before))
       ]
 
 -- a write at one level changes nothing at another
-ArePartialSumsAt-set_other : (ws sums : List ℕ) (k level pair value : ℕ) → k ≢ level → ArePartialSumsAt ws sums k → ArePartialSumsAt ws (set sums ((2 * pair + 1) * 2 ^ level - 1) value) k
+ArePartialSumsAt-set_other : (ws sums : List ℕ) (k level pair value : ℕ) → k ≢ level → ArePartialSumsAt ws sums k
+    → ArePartialSumsAt ws (set sums ((2 * pair + 1) * 2 ^ level - 1) value) k
 ArePartialSumsAt-set_other ws sums k level pair value other held block whole =
     IsPartialSum-set_other ws sums _ _ _ _ (level_apart k level block pair other) (held block whole)
 
@@ -98,12 +112,15 @@ pub record IsWrittenBelow (ws sums : List ℕ) (i w height level : ℕ) : Type 0
   pub written : (k : ℕ) → k < level → ArePartialSumsAt (set ws i w) sums k
   pub unwritten : (k : ℕ) → level ≤ k → k < height → ArePartialSumsAt ws sums k
 
-module _ (ws sums : List ℕ) (i w height level : ℕ) (place : i < length ws) (low : level < height) (done : IsWrittenBelow ws sums i w height level) where
+module _ (ws sums : List ℕ) (i w height level : ℕ) (place : i < length ws) (low : level < height)
+    (done : IsWrittenBelow ws sums i w height level) where
   -- one level more, at which the block of i is an odd one or not whole
-  IsWrittenBelow_skipped : ((pair : ℕ) → 2 * pair ≡ i / 2 ^ level → length ws < (2 * pair + 1) * 2 ^ level) → IsWrittenBelow ws sums i w height (level + 1)
+  IsWrittenBelow_skipped : ((pair : ℕ) → 2 * pair ≡ i / 2 ^ level → length ws < (2 * pair + 1) * 2 ^ level)
+      → IsWrittenBelow ws sums i w height (level + 1)
   IsWrittenBelow_skipped none = record {
     written = λ k below. elim (cases_eq k level) [
-      | inl same ↦ rw same (ArePartialSumsAt-set_skipped ws sums i w level place (done.unwritten level (omega arith) low) none)
+      | inl same ↦
+          rw same (ArePartialSumsAt-set_skipped ws sums i w level place (done.unwritten level (omega arith) low) none)
       | inr other ↦ done.written k (omega arith)
     ];
     unwritten = λ k above few. done.unwritten k (omega arith) few;
@@ -111,21 +128,26 @@ module _ (ws sums : List ℕ) (i w height level : ℕ) (place : i < length ws) (
 
   -- one level more, at which the block of i has a partial sum
   IsWrittenBelow_written : (pair : ℕ) → 2 * pair ≡ i / 2 ^ level → (2 * pair + 1) * 2 ^ level ≤ length sums
-      → IsWrittenBelow ws (set sums ((2 * pair + 1) * 2 ^ level - 1) (get_or sums ((2 * pair + 1) * 2 ^ level - 1) 0 - get_or ws i 0 + w)) i w height (level + 1)
+      → IsWrittenBelow ws (set sums ((2 * pair + 1) * 2 ^ level - 1)
+      (get_or sums ((2 * pair + 1) * 2 ^ level - 1) 0 - get_or ws i 0 + w)) i w height (level + 1)
   IsWrittenBelow_written pair its kept = record {
     written = λ k below. elim (cases_eq k level) [
-      | inl same ↦ rw same (ArePartialSumsAt-set_written ws sums i w level place (done.unwritten level (omega arith) low) pair its kept)
+      | inl same ↦ rw same
+          (ArePartialSumsAt-set_written ws sums i w level place (done.unwritten level (omega arith) low) pair its kept)
       | inr other ↦ ArePartialSumsAt-set_other (set ws i w) sums k level pair _ other (done.written k (omega arith))
     ];
-    unwritten = λ k above few. ArePartialSumsAt-set_other ws sums k level pair _ (λ same. absurd (omega arith)) (done.unwritten k (omega arith) few);
+    unwritten = λ k above few. ArePartialSumsAt-set_other ws sums k level pair _ (λ same. absurd (omega arith))
+        (done.unwritten k (omega arith) few);
   }
 
 -- ---- the climb of the code: `last` is the last place of the block of i, at the levels that it goes through
 -- a weight is within the partial sum over it, which stays within the sum of all
-IsPartialSum-within : (ws sums : List ℕ) (i w from to : ℕ) → i < length ws → from ≤ i → i < to → IsPartialSum ws sums from to
+IsPartialSum-within : (ws sums : List ℕ) (i w from to : ℕ) → i < length ws → from ≤ i → i < to
+    → IsPartialSum ws sums from to
     → (get_or ws i 0 ≤ get_or sums (to - 1) 0) × (get_or sums (to - 1) 0 - get_or ws i 0 + w ≤ sum (set ws i w))
 IsPartialSum-within ws sums i w from to place after before held =
-    let least : get_or ws i 0 ≤ get_or sums (to - 1) 0 = omega (arith, held.adds, weight-le ws i from to place after before) in
+    let least : get_or ws i 0 ≤ get_or sums (to - 1) 0 =
+    omega (arith, held.adds, weight-le ws i from to place after before) in
     (least, omega (arith, held.adds, sum-take-set ws i w to place before, sum_by-take-le (λ x. x) (set ws i w) to))
 
 -- the place past the block of i
@@ -146,7 +168,8 @@ double_even : (half size : ℕ) → (half + 1) * (size * 2) ≡ (2 * half + 1) *
 double_even half size = omega arith
 
 block_end-suc : (i level : ℕ) → block_end i (level + 1) ≡ (i / 2 ^ level / 2 + 1) * (2 ^ level * 2)
-block_end-suc i level = ap (λ n. (n + 1) * 2 ^ (level + 1)) (half_block i level) ∙ ap (λ n. (i / 2 ^ level / 2 + 1) * n) (twice_as_long level)
+block_end-suc i level = ap (λ n. (n + 1) * 2 ^ (level + 1)) (half_block i level)
+    ∙ ap (λ n. (i / 2 ^ level / 2 + 1) * n) (twice_as_long level)
 
 -- a level up from an odd block, the block of i ends at the same place
 block_end-odd : (i level : ℕ) → i / 2 ^ level % 2 ≡ 1 → block_end i (level + 1) ≡ block_end i level
@@ -173,8 +196,10 @@ block_end-within i level height low reached =
     let split : 2 ^ height ≡ 2 ^ more * 2 ^ level = ap (λ n. 2 ^ n) (omega (arith, low)) ∙ pow-add 2 more level in
     let around = block_around (2 ^ level) i (pow_pos level) in
     elim (cases_lt (i / 2 ^ level) (2 ^ more)) [
-      | inl below ↦ omega (arith, split, mul-le-mul_right {m = i / 2 ^ level + 1} {n = 2 ^ more} (2 ^ level) (omega (arith, below)))
-      | inr above ↦ absurd (omega (arith, reached, split, around.0, mul-le-mul_right {m = 2 ^ more} {n = i / 2 ^ level} (2 ^ level) above))
+      | inl below ↦ omega
+          (arith, split, mul-le-mul_right {m = i / 2 ^ level + 1} {n = 2 ^ more} (2 ^ level) (omega (arith, below)))
+      | inr above ↦ absurd (omega
+          (arith, reached, split, around.0, mul-le-mul_right {m = 2 ^ more} {n = i / 2 ^ level} (2 ^ level) above))
     ]
 
 module _ (i last level : ℕ) (ends : last + 1 ≡ block_end i level) where
@@ -183,10 +208,12 @@ module _ (i last level : ℕ) (ends : last + 1 ≡ block_end i level) where
   last_digits = omega (arith, ends, pow_pos level)
 
   last_block : bit_at last level ≡ i / 2 ^ level % 2
-  last_block = ap (λ n. bit_at n level) last_digits ∙ ap (λ n. n % 2) (div-mul-add (i / 2 ^ level) (2 ^ level) (2 ^ level - 1) (omega (arith, pow_pos level)))
+  last_block = ap (λ n. bit_at n level) last_digits
+      ∙ ap (λ n. n % 2) (div-mul-add (i / 2 ^ level) (2 ^ level) (2 ^ level - 1) (omega (arith, pow_pos level)))
 
   ones_below : (k : ℕ) → k < level → bit_at last k ≡ 1
-  ones_below k low = ap (λ n. bit_at n k) last_digits ∙ bit_at_cat_low (i / 2 ^ level) level (2 ^ level - 1) k low ∙ bit_at_ones level k low
+  ones_below k low = ap (λ n. bit_at n k) last_digits ∙ bit_at_cat_low (i / 2 ^ level) level (2 ^ level - 1) k low
+      ∙ bit_at_ones level k low
 
 -- the levels below `level` are done, and the block of i at that level has the last place `last`
 pub record IsClimbed (ws sums : List ℕ) (i w height last level : ℕ) : Type 0 where
@@ -200,7 +227,8 @@ module _ (ws sums : List ℕ) (i w height last : ℕ) (place : i < length ws) wh
   IsClimbed_odd level low done odd =
       let is : i / 2 ^ level % 2 ≡ 1 = sym (last_block i last level done.ends) ∙ odd in
       record {
-        below = IsWrittenBelow_skipped ws sums i w height level place low done.below (λ pair its. absurd (omega (arith, its, is)));
+        below = IsWrittenBelow_skipped ws sums i w height level place low done.below
+            (λ pair its. absurd (omega (arith, its, is)));
         ends = done.ends ∙ sym (block_end-odd i level is);
       }
 
@@ -210,7 +238,8 @@ module _ (ws sums : List ℕ) (i w height last : ℕ) (place : i < length ws) wh
   IsClimbed_ones zero level low ones done = let same : level + 0 ≡ level = omega arith in rw same done
   IsClimbed_ones (suc more) level low ones done =
       let next : level + 1 + more ≡ level + suc more = omega arith in
-      rw next at (IsClimbed_ones more (level + 1) (omega arith) (λ k below. ones k (omega arith)) (IsClimbed_odd level (omega arith) done (ones level (omega arith))))
+      rw next at (IsClimbed_ones more (level + 1) (omega arith) (λ k below. ones k (omega arith))
+      (IsClimbed_odd level (omega arith) done (ones level (omega arith))))
 
   -- up past all levels if the block of i is cut short
   IsWrittenBelow_short : (more level : ℕ) → level + more ≤ height → length ws < block_end i level
@@ -222,20 +251,25 @@ module _ (ws sums : List ℕ) (i w height last : ℕ) (place : i < length ws) wh
       (IsWrittenBelow_skipped ws sums i w height level place (omega arith) below (λ pair its. rw its short)))
 
   -- past the last place no level is left with a partial sum over i
-  pub IsWrittenBelow_past : (level : ℕ) → level ≤ height → IsClimbed ws sums i w height last level → length ws ≤ last → IsWrittenBelow ws sums i w height height
+  pub IsWrittenBelow_past : (level : ℕ) → level ≤ height → IsClimbed ws sums i w height last level → length ws ≤ last
+      → IsWrittenBelow ws sums i w height height
   IsWrittenBelow_past level within done past =
       let up : level + (height - level) ≡ height = omega (arith, within) in
-      rw up at (IsWrittenBelow_short (height - level) level (omega (arith, up)) (omega (arith, done.ends, past)) done.below)
+      rw up at
+      (IsWrittenBelow_short (height - level) level (omega (arith, up)) (omega (arith, done.ends, past)) done.below)
 
   -- nor at the last of the first 2 ^ height places, whose digits below the height are all 1
-  pub IsWrittenBelow_top : (level : ℕ) → level ≤ height → IsClimbed ws sums i w height last level → i < 2 ^ height → 2 ^ height - 1 ≤ last → IsWrittenBelow ws sums i w height height
+  pub IsWrittenBelow_top : (level : ℕ) → level ≤ height → IsClimbed ws sums i w height last level → i < 2 ^ height
+      → 2 ^ height - 1 ≤ last → IsWrittenBelow ws sums i w height height
   IsWrittenBelow_top level within done reached past =
       let up : level + (height - level) ≡ height = omega (arith, within) in
       let is : last ≡ 2 ^ height - 1 = omega (arith, past, done.ends, block_end-within i level height within reached) in
-      (rw up at (IsClimbed_ones (height - level) level (omega (arith, up)) (λ k below. rw is (bit_at_ones height k (omega (arith, up, below)))) done)).below
+      (rw up at (IsClimbed_ones (height - level) level (omega (arith, up))
+      (λ k below. rw is (bit_at_ones height k (omega (arith, up, below)))) done)).below
 
   -- the code looks for the lowest digit 0 of `last`
-  module _ (level lowest : ℕ) (within : level ≤ height) (done : IsClimbed ws sums i w height last level) (fits : last + 1 < 2 ^ 64)
+  module _ (level lowest : ℕ) (within : level ≤ height) (done : IsClimbed ws sums i w height last level)
+      (fits : last + 1 < 2 ^ 64)
       (is_lowest : lowest ≡ trailing_ones w64 last) where
     zero_at_lowest : bit_at last lowest ≡ 0
     zero_at_lowest = rw is_lowest (bit_at-trailing_ones w64 last fits).1
@@ -254,7 +288,8 @@ module _ (ws sums : List ℕ) (i w height last : ℕ) (place : i < length ws) wh
     pub lowest-below : last < 2 ^ height - 1 → lowest < height
     lowest-below before = elim (cases_lt lowest height) [
       | inl below ↦ below
-      | inr past ↦ absurd (omega (arith, before, ones-least height last (λ k low. ones_to_lowest k (omega (arith, low, past)))))
+      | inr past ↦
+          absurd (omega (arith, before, ones-least height last (λ k low. ones_to_lowest k (omega (arith, low, past)))))
     ]
 
     -- and the code sets it to 1
@@ -266,7 +301,8 @@ module _ (ws sums : List ℕ) (i w height last : ℕ) (place : i < length ws) wh
       IsClimbed_lowest : IsClimbed ws sums i w height last lowest
       IsClimbed_lowest =
           let up : level + (lowest - level) ≡ lowest = omega (arith, lowest_from) in
-          rw up at (IsClimbed_ones (lowest - level) level (omega (arith, up, low)) (λ k below. ones_to_lowest k (omega (arith, up, below))) done)
+          rw up at (IsClimbed_ones (lowest - level) level (omega (arith, up, low))
+          (λ k below. ones_to_lowest k (omega (arith, up, below))) done)
 
       lowest_even : i / 2 ^ lowest % 2 ≡ 0
       lowest_even = sym (last_block i last lowest IsClimbed_lowest.ends) ∙ zero_at_lowest
@@ -282,18 +318,23 @@ module _ (ws sums : List ℕ) (i w height last : ℕ) (place : i < length ws) wh
 
       -- which is one of the first 2 ^ height places
       pub last_below : i < 2 ^ height → last < 2 ^ height
-      last_below reached = omega (arith, IsClimbed_lowest.ends, block_end-within i lowest height (omega (arith, low)) reached)
+      last_below reached =
+          omega (arith, IsClimbed_lowest.ends, block_end-within i lowest height (omega (arith, low)) reached)
 
       module _ (same_length : length sums ≡ length ws) (whole : last < length ws) where
-        pub last_sum_within : (get_or ws i 0 ≤ get_or sums last 0) × (get_or sums last 0 - get_or ws i 0 + w ≤ sum (set ws i w))
+        pub last_sum_within : (get_or ws i 0 ≤ get_or sums last 0)
+            × (get_or sums last 0 - get_or ws i 0 + w ≤ sum (set ws i w))
         last_sum_within =
             let around = block_around (2 ^ lowest) i (pow_pos lowest) in
-            rw last_of_pair (IsPartialSum-within ws sums i w (2 * pair * 2 ^ lowest) _ place (rw its around.0) (rw its around.1)
+            rw last_of_pair
+            (IsPartialSum-within ws sums i w (2 * pair * 2 ^ lowest) _ place (rw its around.0) (rw its around.1)
             (IsClimbed_lowest.below.unwritten lowest (omega arith) low pair (omega (arith, whole, last_of_pair))))
 
-        pub last_sum_written : IsClimbed ws (set sums last (get_or sums last 0 - get_or ws i 0 + w)) i w height (last + 2 ^ lowest) (lowest + 1)
+        pub last_sum_written : IsClimbed ws (set sums last (get_or sums last 0 - get_or ws i 0 + w)) i w height
+            (last + 2 ^ lowest) (lowest + 1)
         last_sum_written = record {
-          below = rw last_of_pair (IsWrittenBelow_written ws sums i w height lowest place low IsClimbed_lowest.below pair its (omega (arith, whole, last_of_pair, same_length)));
+          below = rw last_of_pair (IsWrittenBelow_written ws sums i w height lowest place low IsClimbed_lowest.below
+              pair its (omega (arith, whole, last_of_pair, same_length)));
           ends = omega (arith, IsClimbed_lowest.ends, block_end-even i lowest lowest_even);
         }
 
@@ -302,7 +343,8 @@ module _ (ws sums : List ℕ) (i w height last : ℕ) (place : i < length ws) wh
 pub reach-more : (ws : List ℕ) (few more : ℕ) → few ≤ more → sum (take few ws) ≡ sum ws → sum (take more ws) ≡ sum ws
 reach-more ws few more past all = omega (arith, all, sum-take-le ws few more past, sum_by-take-le (λ x. x) ws more)
 
-module _ (ws : List ℕ) (kept : Kept) (total : ℕ) (held : AreKept ws kept) (whole : total ≡ sum ws) (room : 2 ^ kept.height ≤ length ws) (few : kept.height < 64) where
+module _ (ws : List ℕ) (kept : Kept) (total : ℕ) (held : AreKept ws kept) (whole : total ≡ sum ws)
+    (room : 2 ^ kept.height ≤ length ws) (few : kept.height < 64) where
   abbrev at : ℕ
   at = 2 ^ kept.height - 1
 
@@ -310,12 +352,15 @@ module _ (ws : List ℕ) (kept : Kept) (total : ℕ) (held : AreKept ws kept) (w
   last-is = omega arith
 
   -- at the new level the first block has all the weight, and the others have none
-  grown-block : (pair : ℕ) → (2 * pair + 1) * 2 ^ kept.height ≤ length ws → IsPartialSum ws (set kept.sums at total) (2 * pair * 2 ^ kept.height) ((2 * pair + 1) * 2 ^ kept.height)
+  grown-block : (pair : ℕ) → (2 * pair + 1) * 2 ^ kept.height ≤ length ws
+      → IsPartialSum ws (set kept.sums at total) (2 * pair * 2 ^ kept.height) ((2 * pair + 1) * 2 ^ kept.height)
   grown-block zero within =
       let some = pow_pos kept.height in
       let low : at < length kept.sums = omega (arith, held.same_length, room, some) in
-      let here : get_or (set kept.sums at total) ((2 * 0 + 1) * 2 ^ kept.height - 1) 0 ≡ total = rw last-is (get_or-set_same kept.sums at total 0 low) in
-      let none : sum (take (2 * 0 * 2 ^ kept.height) ws) ≡ 0 = let z : 2 * 0 * 2 ^ kept.height ≡ 0 = omega arith in rw z refl in
+      let here : get_or (set kept.sums at total) ((2 * 0 + 1) * 2 ^ kept.height - 1) 0 ≡ total =
+      rw last-is (get_or-set_same kept.sums at total 0 low) in
+      let none : sum (take (2 * 0 * 2 ^ kept.height) ws) ≡ 0 = let z : 2 * 0 * 2 ^ kept.height ≡ 0 = omega arith in
+      rw z refl in
       let end : (2 * 0 + 1) * 2 ^ kept.height ≡ 2 ^ kept.height = omega arith in
       record { adds = omega (arith, here, none, whole, held.reach, ap (λ n. sum (take n ws)) end) }
   grown-block (suc p) within =
@@ -324,7 +369,8 @@ module _ (ws : List ℕ) (kept : Kept) (total : ℕ) (held : AreKept ws kept) (w
       let to : 2 ^ kept.height ≤ (2 * suc p + 1) * 2 ^ kept.height = omega arith in
       let past : 2 ^ kept.height ≤ (2 * suc p + 1) * 2 ^ kept.height - 1 = omega (arith, some) in
       let other : (2 * suc p + 1) * 2 ^ kept.height - 1 ≢ at = λ same. absurd (omega (arith, some, past, same)) in
-      let here = get_or-set_other kept.sums at _ total 0 other ∙ held.blank ((2 * suc p + 1) * 2 ^ kept.height - 1) past in
+      let here = get_or-set_other kept.sums at _ total 0 other
+      ∙ held.blank ((2 * suc p + 1) * 2 ^ kept.height - 1) past in
       record { adds = omega (arith, here, reach-more ws (2 ^ kept.height) (2 * suc p * 2 ^ kept.height) from held.reach, reach-more ws (2 ^ kept.height) ((2 * suc p + 1) * 2 ^ kept.height) to held.reach) }
 
   pub AreKept-grown : AreKept ws (record { sums = set kept.sums at total; height = kept.height + 1 })
@@ -335,7 +381,9 @@ module _ (ws : List ℕ) (kept : Kept) (total : ℕ) (held : AreKept ws kept) (w
         same_length = length-set kept.sums at total ∙ held.same_length;
         partial = λ level low. elim (cases_eq level kept.height) [
           | inl same ↦ subst (ArePartialSumsAt ws (set kept.sums at total)) (sym same) grown-block
-          | inr other ↦ subst (λ n. ArePartialSumsAt ws (set kept.sums n total) level) last-is (ArePartialSumsAt-set_other ws kept.sums level kept.height 0 total other (held.partial level (omega (arith, low, other))))
+          | inr other ↦ subst (λ n. ArePartialSumsAt ws (set kept.sums n total) level) last-is
+              (ArePartialSumsAt-set_other ws kept.sums level kept.height 0 total other
+              (held.partial level (omega (arith, low, other))))
         ];
         blank = λ place past.
             let other : place ≢ at = λ same. absurd (omega (arith, some, past, twice, same)) in
@@ -347,7 +395,8 @@ module _ (ws : List ℕ) (kept : Kept) (total : ℕ) (held : AreKept ws kept) (w
       }
 
 -- after a write of a weight and of the partial sums over it
-pub AreKept-written : (ws sums : List ℕ) (kept : Kept) (i w : ℕ) → AreKept ws kept → i < length ws → i < 2 ^ kept.height → length sums ≡ length kept.sums
+pub AreKept-written : (ws sums : List ℕ) (kept : Kept) (i w : ℕ) → AreKept ws kept → i < length ws → i < 2 ^ kept.height
+    → length sums ≡ length kept.sums
     → ((level : ℕ) → level < kept.height → ArePartialSumsAt (set ws i w) sums level)
     → ((place : ℕ) → 2 ^ kept.height ≤ place → get_or sums place 0 ≡ get_or kept.sums place 0)
     → AreKept (set ws i w) (record { sums = sums; height = kept.height })
@@ -365,4 +414,5 @@ AreKept-written ws sums kept i w held place reached length-same partial others =
 pub level-room : (i level digits : ℕ) → level < digits → 2 ^ digits ≤ 2 * i + 1 → 2 ^ level ≤ i
 level-room i level digits low needed =
     let twice : 2 ^ (level + 1) ≡ 2 * 2 ^ level = rw add-one (omega (arith, pow-suc 2 level)) in
-    omega (arith, twice, needed, pow-le-pow_right {n = 2} (omega arith) {i = level + 1} {j = digits} (omega (arith, low)))
+    omega
+    (arith, twice, needed, pow-le-pow_right {n = 2} (omega arith) {i = level + 1} {j = digits} (omega (arith, low)))

@@ -10,7 +10,8 @@ pub sum-take-set_past : (ws : List ℕ) (i w n : ℕ) → n ≤ i → sum (take 
 sum-take-set_past ws i w n past = ap sum (take-set-le n ws i w past)
 
 -- a write among the first n weights puts one weight for another in their sum
-pub sum-take-set : (ws : List ℕ) (i w n : ℕ) → i < length ws → i < n → sum (take n (set ws i w)) + get_or ws i 0 ≡ sum (take n ws) + w
+pub sum-take-set : (ws : List ℕ) (i w n : ℕ) → i < length ws → i < n
+    → sum (take n (set ws i w)) + get_or ws i 0 ≡ sum (take n ws) + w
 sum-take-set [] i w n place among = omega arith
 sum-take-set (x ∷ ws) i w zero place among = omega arith
 sum-take-set (x ∷ ws) zero w (suc n) place among =
@@ -19,6 +20,7 @@ sum-take-set (x ∷ ws) (suc i) w (suc n) place among =
     omega (arith, sum-take-set ws i w n (omega arith) (omega arith), sum_by-cons (λ y. y) x (take n (set ws i w)), sum_by-cons (λ y. y) x (take n ws))
 
 -- a weight among those from m on and before n is within the difference of the two sums
-pub weight-le : (ws : List ℕ) (i m n : ℕ) → i < length ws → m ≤ i → i < n → sum (take m ws) + get_or ws i 0 ≤ sum (take n ws)
+pub weight-le : (ws : List ℕ) (i m n : ℕ) → i < length ws → m ≤ i → i < n
+    → sum (take m ws) + get_or ws i 0 ≤ sum (take n ws)
 weight-le ws i m n place after before =
     omega (arith, sum-take-le ws m i after, sum-take-le ws (i + 1) n (omega arith), sum_by_more (λ y. y) ws i 0 place)

@@ -13,11 +13,13 @@ pub record IsCounted (digits level reads : ℕ) : Type 0 where
   pub few : reads + level ≤ digits
 
 -- either way it has read no more than one partial sum a level
-pub reads-few : (digits level block reads : ℕ) → IsUncounted digits level block reads ⊎ IsCounted digits level reads → reads + level ≤ digits
+pub reads-few : (digits level block reads : ℕ) → IsUncounted digits level block reads ⊎ IsCounted digits level reads
+    → reads + level ≤ digits
 reads-few digits level block reads (inl start) = omega (arith, start.at_top, start.none)
 reads-few digits level block reads (inr before) = before.few
 
-module _ (digits upper level block reads : ℕ) (down : upper ≡ level + 1) (before : IsUncounted digits upper block reads ⊎ IsCounted digits upper reads) where
+module _ (digits upper level block reads : ℕ) (down : upper ≡ level + 1)
+    (before : IsUncounted digits upper block reads ⊎ IsCounted digits upper reads) where
   -- one level down with a read
   pub IsCounted_read : IsCounted digits level (reads + 1)
   IsCounted_read = record {
@@ -26,7 +28,8 @@ module _ (digits upper level block reads : ℕ) (down : upper ≡ level + 1) (be
   }
 
   -- one level down with no read, which the top level always has
-  pub IsCounted_short : (n : ℕ) → 2 ^ digits ≤ 2 * n + 1 → n < (block * 2 + 1) * 2 ^ level → IsCounted digits level reads
+  pub IsCounted_short : (n : ℕ) → 2 ^ digits ≤ 2 * n + 1 → n < (block * 2 + 1) * 2 ^ level
+      → IsCounted digits level reads
   IsCounted_short n needed short = elim before [
     | inl start ↦
         let twice : 2 ^ digits ≡ 2 * 2 ^ level = rw (← start.at_top, down, add-one) (omega (arith, pow-suc 2 level)) in
@@ -38,14 +41,17 @@ module _ (digits upper level block reads : ℕ) (down : upper ≡ level + 1) (be
 -- no number of digits in which n can be written is less than the least
 digits_least : (n digits other : ℕ) → 2 ^ digits ≤ 2 * n + 1 → n < 2 ^ other → digits ≤ other
 digits_least n digits other needed enough = elim (cases_lt other digits) [
-  | inl less ↦ absurd (omega (arith, pow-suc 2 other, pow-le-pow_right {n = 2} (omega arith) {i = suc other} {j = digits} (omega arith)))
+  | inl less ↦ absurd (omega
+      (arith, pow-suc 2 other, pow-le-pow_right {n = 2} (omega arith) {i = suc other} {j = digits} (omega arith)))
   | inr more ↦ more
 ]
 
 -- at the end of a descent over one level or more, whose reads are counted besides what was counted before
-pub CountsReads-from_IsCounted : (n digits level block reads old new : ℕ) → level ≡ 0 → 0 < digits → 2 ^ digits ≤ 2 * n + 1 → new ≡ counted_up old reads
+pub CountsReads-from_IsCounted : (n digits level block reads old new : ℕ) → level ≡ 0 → 0 < digits
+    → 2 ^ digits ≤ 2 * n + 1 → new ≡ counted_up old reads
     → IsUncounted digits level block reads ⊎ IsCounted digits level reads → CountsReads n old new
-CountsReads-from_IsCounted n digits level block reads old new end some needed is (inl start) = absurd (omega (arith, start.at_top, end, some))
+CountsReads-from_IsCounted n digits level block reads old new end some needed is (inl start) =
+    absurd (omega (arith, start.at_top, end, some))
 CountsReads-from_IsCounted n digits level block reads old new end some needed is (inr all) = record {
   reads = reads;
   some = all.some;

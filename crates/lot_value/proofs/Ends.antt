@@ -13,10 +13,13 @@ module _ (f : Funding) (edge : Edge) (from to : Node) (at : ends_of f edge ≡ S
     to-is = ap (λ (e : EdgeEnds). e.to) (sym same-ends)
 
 -- an edge that leads so by its ends is there
-pub there-edge : (f : Funding) (edge : Edge) (ends : EdgeEnds) → ends_of_edge f edge ≡ Some ends → ends_of f edge ≡ Some (ends.from, ends.to)
+pub there-edge : (f : Funding) (edge : Edge) (ends : EdgeEnds) → ends_of_edge f edge ≡ Some ends
+    → ends_of f edge ≡ Some (ends.from, ends.to)
 there-edge f edge ends is = by (ends_of f edge) refl is
   where
-    by : (o : Option (Node × Node)) → ends_of f edge ≡ o → option_map (λ (e : Node × Node). edge_between (counted_amount f edge) e.0 e.1) o ≡ Some ends → ends_of f edge ≡ Some (ends.from, ends.to)
+    by : (o : Option (Node × Node)) → ends_of f edge ≡ o
+        → option_map (λ (e : Node × Node). edge_between (counted_amount f edge) e.0 e.1) o ≡ Some ends
+        → ends_of f edge ≡ Some (ends.from, ends.to)
     by None at e = cc
     by (Some (from, to)) at e =
         let same = some-injective (edge_between (counted_amount f edge) from to) ends e in

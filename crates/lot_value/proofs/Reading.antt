@@ -6,9 +6,11 @@ pub length-ones : {A : Type 0} (xs : List A) → sum_by (λ x. 1) xs ≡ length 
 length-ones [] = refl
 length-ones (x ∷ xs) = omega (arith, sum_by-cons (λ y. 1) x xs, length-ones xs)
 
-module _ (f : Funding) (node : Node) (done left : List Edge) (each : HasEachOnce (done ++ left) (LeadsInto f node)) where
+module _ (f : Funding) (node : Node) (done left : List Edge)
+    (each : HasEachOnce (done ++ left) (LeadsInto f node)) where
   -- what was read, and the next one, is part of the whole
-  pub next-sum : (g : Edge → ℕ) (rest : List Edge) (edge : Edge) → left ≡ edge ∷ rest → sum_by g done + g edge ≤ sum_by g (edges_into f node)
+  pub next-sum : (g : Edge → ℕ) (rest : List Edge) (edge : Edge) → left ≡ edge ∷ rest
+      → sum_by g done + g edge ≤ sum_by g (edges_into f node)
   next-sum g rest edge is =
       omega (arith, into-sums f node g (done ++ left) each, sum_by-append g done left, ap (sum_by g) is, sum_by-cons g edge rest)
 
@@ -17,4 +19,5 @@ module _ (f : Funding) (node : Node) (done left : List Edge) (each : HasEachOnce
   all-sum g none = into-sums f node g done (each-done (LeadsInto f node) done left none each)
 
   pub all-count : left ≡ [] → length done ≡ edge_count_into f node
-  all-count none = sym (length-ones done) ∙ all-sum (λ edge. 1) none ∙ length-ones (edges_into f node) ∙ edges-many f node
+  all-count none = sym (length-ones done) ∙ all-sum (λ edge. 1) none ∙ length-ones (edges_into f node)
+      ∙ edges-many f node

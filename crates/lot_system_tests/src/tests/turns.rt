@@ -202,8 +202,8 @@ const THREE_PROCESSORS: &str =
     "lottery 1\nprocessors 3\nscript s\ncompute 150\nendscript\nscript u\nadd 1\ncompute 150\nendscript\n\
     fundx 1 base a s\nfundx 1 base b u\nfundx 1 base c s\n";
 
-/// A slice is stale if it is of another script, or of more or less than the budget left, or if there is none. A slice of
-/// another thread with the same script, start and budget is the same slice.
+/// A slice is stale if it is of another script, or of more or less than the budget left, or if there is none. A slice
+/// of another thread with the same script, start and budget is the same slice.
 const SLICES_OF_OTHERS: &[Row] = &[
     (0, Given::Nothing, Came::Funded(1)),
     (1, Given::Nothing, Came::Won(1, 0, 1)),

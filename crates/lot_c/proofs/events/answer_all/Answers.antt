@@ -15,7 +15,8 @@ loop-i-init c = record {
 
 pub loop-i-preserved : goal.loop-i-preserved
 loop-i-preserved c =
-    let es = c.args.events.now in let i = c.loop-i.i in let rs = c.loop-i.replies in let s = c.loop-i.kernel.state in let e = c.in-Ok.event in
+    let es = c.args.events.now in let i = c.loop-i.i in let rs = c.loop-i.replies in let s = c.loop-i.kernel.state in
+    let e = c.in-Ok.event in
     let kept = c.loop-i.invariant in
     let below : i < length es = omega (arith, c.loop-i-test.true) in
     let room : i < length rs = omega (arith, c.loop-i-test.true, kept.lengths) in
@@ -31,11 +32,13 @@ loop-i-preserved c =
       done = refl;
       lengths = kept.lengths ∙ sym (length-set rs i c.of.result);
       same = ap (λ (a : State). a.limits) c.event.ensures.state ∙ step-limits s e ∙ kept.same;
-      each = λ end others. kept.each end (done-more sizes es i _ e below ok c.loop-i.kernel c.event.new.self end (record {
-        reply = refl;
-        state = c.event.ensures.state;
-        sound = c.event.ensures.sound;
-        stale = c.event.ensures.stale;
-        counts = subst (λ (answer : Reply). Counts e answer c.loop-i.kernel c.event.new.self) c.event.ensures.reply c.event.ensures.counts;
-      }) others);
+      each =
+          λ end others. kept.each end (done-more sizes es i _ e below ok c.loop-i.kernel c.event.new.self end (record {
+            reply = refl;
+            state = c.event.ensures.state;
+            sound = c.event.ensures.sound;
+            stale = c.event.ensures.stale;
+            counts = subst (λ (answer : Reply). Counts e answer c.loop-i.kernel c.event.new.self) c.event.ensures.reply
+                c.event.ensures.counts;
+          }) others);
     }

@@ -5,5 +5,6 @@ use Rattle.lot_c.proofs.kernel.lot_kernel_bytes.Goals as goal
 pub returns-in-Some : goal.returns-in-Some
 returns-in-Some c = record {
   limits = λ outside. absurd (outside (c.in-Some.ensures.some.0 refl));
-  bytes = λ within. (c.code-in-Some.ensures, omega (arith, c.bytes.ensures.bytes ∙ ap bytes_of c.in-Some.ensures.sizes));
+  bytes =
+      λ within. (c.code-in-Some.ensures, omega (arith, c.bytes.ensures.bytes ∙ ap bytes_of c.in-Some.ensures.sizes));
 }

@@ -7,5 +7,6 @@ abbrev pub invariant-loop-place : goal.invariant-loop-place
 invariant-loop-place l = record {
   below : l.running ≤ l.number;
   passed : l.running + sum (map wide_meant (drop l.place l.weights)) ≡ sum (map wide_meant l.weights);
-  sought : l.place + first_above l.number (running_sums l.running (map wide_meant (drop l.place l.weights))) ≡ first_above l.number (running_sums 0 (map wide_meant l.weights));
+  sought : l.place + first_above l.number (running_sums l.running (map wide_meant (drop l.place l.weights)))
+      ≡ first_above l.number (running_sums 0 (map wide_meant l.weights));
 }

@@ -10,7 +10,10 @@ returns c =
     let commands = command_marks curves in
     let last = frame curves.by curves.window in
     on_ok_weaker c.push_frame.result
-    (λ put. parts-two c.args.text.now heights (times ++ (commands ++ last)) c.push_height_marks.new.text c.push_frame.new.text (rw c.highest.ensures at c.in_ok-push_height_marks.ensures)
-    (parts-two c.push_height_marks.new.text times (commands ++ last) c.push_time_marks.new.text c.push_frame.new.text c.in_ok-push_time_marks.ensures
-    (parts-two c.push_time_marks.new.text commands last c.push_command_marks.new.text c.push_frame.new.text c.in_ok-push_command_marks.ensures put)))
+    (λ put. parts-two c.args.text.now heights (times ++ (commands ++ last)) c.push_height_marks.new.text
+    c.push_frame.new.text (rw c.highest.ensures at c.in_ok-push_height_marks.ensures)
+    (parts-two c.push_height_marks.new.text times
+    (commands ++ last) c.push_time_marks.new.text c.push_frame.new.text c.in_ok-push_time_marks.ensures
+    (parts-two c.push_time_marks.new.text commands last c.push_command_marks.new.text c.push_frame.new.text
+    c.in_ok-push_command_marks.ensures put)))
     (rw (c.window.ensures, c.by.ensures) at c.push_frame.ensures)

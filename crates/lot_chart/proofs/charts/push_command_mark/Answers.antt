@@ -8,8 +8,11 @@ returns c =
     let between = codes " 60V460' stroke='#bbbbbb' stroke-dasharray='3 3'><title>command at " in
     let number = decimal c.args.time in
     let after = codes "</title></path>\n" in
-    let first = rw (c.across.ensures, c.last.ensures.last, tick, c.origin.ensures.origin) at c.in_ok-push_tenths_within.ensures in
+    let first =
+    rw (c.across.ensures, c.last.ensures.last, tick, c.origin.ensures.origin) at c.in_ok-push_tenths_within.ensures in
     on_ok_weaker c.push.result
-    (λ put. parts-after c.args.text.now before _ between (number ++ after) c.push_tenths_within.new.self c.push.new.self first
-    (parts-two c.push_tenths_within.new.self number after c.push_number.new.self c.push.new.self c.in_ok-push_number.ensures put))
+    (λ put.
+    parts-after c.args.text.now before _ between (number ++ after) c.push_tenths_within.new.self c.push.new.self first
+    (parts-two c.push_tenths_within.new.self number after c.push_number.new.self c.push.new.self
+    c.in_ok-push_number.ensures put))
     c.push.ensures

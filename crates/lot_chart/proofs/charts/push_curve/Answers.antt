@@ -8,5 +8,7 @@ returns c =
     let put = points c.args.curves.now c.args.tops.now (drawn_of c.args.curves.now c.args.others.now line.thread) in
     let after = stroke line.style in
     on_ok_weaker c.push_stroke.result
-    (λ last. parts-two c.args.text.now before (put ++ after) c.push.new.self c.push_stroke.new.text c.in_ok-push.ensures (parts-two c.push.new.self put after c.push_points_of.new.text c.push_stroke.new.text c.in_ok-push_points_of.ensures last))
+    (λ last. parts-two c.args.text.now before (put ++ after) c.push.new.self c.push_stroke.new.text c.in_ok-push.ensures
+    (parts-two c.push.new.self put after c.push_points_of.new.text c.push_stroke.new.text c.in_ok-push_points_of.ensures
+    last))
     c.push_stroke.ensures

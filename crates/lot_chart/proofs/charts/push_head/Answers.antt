@@ -15,10 +15,14 @@ returns c =
     let rest = third ++ (number ++ (fourth ++ end)) in
     let whole = c.push-2.new.self in
     on_ok_weaker c.push-2.result
-    (λ put. parts-after c.args.text.now first number second (number ++ (font ++ (title ++ rest))) c.push_number_within.new.self whole c.in_ok-push_number_within.ensures
-    (parts-two c.push_number_within.new.self number (font ++ (title ++ rest)) c.push_number.new.self whole c.in_ok-push_number.ensures
+    (λ put. parts-after c.args.text.now first number second
+    (number ++ (font ++ (title ++ rest))) c.push_number_within.new.self whole c.in_ok-push_number_within.ensures
+    (parts-two c.push_number_within.new.self number
+    (font ++ (title ++ rest)) c.push_number.new.self whole c.in_ok-push_number.ensures
     (parts-two c.push_number.new.self font (title ++ rest) c.push.new.self whole c.in_ok-push.ensures
     (parts-two c.push.new.self title rest c.push_escaped.new.text whole c.in_ok-push_escaped.ensures
-    (parts-after c.push_escaped.new.text third number fourth end c.push_number_within-2.new.self whole c.in_ok-push_number_within-2.ensures
-    (parts-two c.push_number_within-2.new.self title after c.push_escaped-2.new.text whole c.in_ok-push_escaped-2.ensures put))))))
+    (parts-after c.push_escaped.new.text third number fourth end c.push_number_within-2.new.self whole
+    c.in_ok-push_number_within-2.ensures
+    (parts-two c.push_number_within-2.new.self title after c.push_escaped-2.new.text whole
+    c.in_ok-push_escaped-2.ensures put))))))
     c.push-2.ensures

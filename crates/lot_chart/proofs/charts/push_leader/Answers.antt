@@ -8,6 +8,8 @@ returns c =
     let between = codes "L784 " in
     let rest = codes "' stroke='" ++ (colour line.style ++ codes "'/>\n") in
     on_ok_weaker c.push_within.result
-    (λ put. parts-after c.args.text.now before (tenths line.height) between (tenths line.place ++ rest) c.push_tenths_within.new.self c.push_within.new.self c.in_ok-push_tenths_within.ensures
-    (parts-two c.push_tenths_within.new.self (tenths line.place) rest c.push_tenths.new.self c.push_within.new.self c.in_ok-push_tenths.ensures put))
+    (λ put. parts-after c.args.text.now before (tenths line.height) between
+    (tenths line.place ++ rest) c.push_tenths_within.new.self c.push_within.new.self c.in_ok-push_tenths_within.ensures
+    (parts-two c.push_tenths_within.new.self
+    (tenths line.place) rest c.push_tenths.new.self c.push_within.new.self c.in_ok-push_tenths.ensures put))
     (rw c.colour.ensures at c.push_within.ensures)

@@ -10,6 +10,8 @@ returns c =
     let rest = codes " " ++ (tenths (share_of c.args.total line.ticks) ++ codes "%</text>\n") in
     let second = rw c.name_of.ensures.name at c.in_ok-push_escaped.ensures in
     on_ok_weaker c.push_tenths_within-2.result
-    (λ put. parts-after c.args.text.now before (tenths line.place) between (name ++ rest) c.push_tenths_within.new.self c.push_tenths_within-2.new.self c.in_ok-push_tenths_within.ensures
-    (parts-two c.push_tenths_within.new.self name rest c.push_escaped.new.text c.push_tenths_within-2.new.self second put))
+    (λ put. parts-after c.args.text.now before (tenths line.place) between
+    (name ++ rest) c.push_tenths_within.new.self c.push_tenths_within-2.new.self c.in_ok-push_tenths_within.ensures
+    (parts-two c.push_tenths_within.new.self name rest c.push_escaped.new.text c.push_tenths_within-2.new.self second
+    put))
     (rw c.share_of.ensures at c.push_tenths_within-2.ensures)

@@ -7,5 +7,6 @@ returns c =
     let between = codes "," in
     let first = rw (c.across.ensures, c.last.ensures.last) at c.in_ok-push_tenths_within.ensures in
     on_ok_weaker c.push_tenths.result
-    (parts-after c.args.text.now before (tenths (across (last_end c.args.curves.now.stretches) c.args.tick)) between (tenths c.args.height) c.push_tenths_within.new.self c.push_tenths.new.self first)
+    (parts-after c.args.text.now before (tenths (across (last_end c.args.curves.now.stretches) c.args.tick)) between
+    (tenths c.args.height) c.push_tenths_within.new.self c.push_tenths.new.self first)
     c.push_tenths.ensures

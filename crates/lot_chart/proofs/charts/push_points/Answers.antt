@@ -7,5 +7,7 @@ loop-sample-preserved c =
     let heads = c.args.tops.now in
     let stretches = c.args.stretches.now in
     let sample = c.loop-sample.sample in
-    parts-sample (sample_point curves heads stretches) sample c.args.text.now c.loop-sample.text c.push_point.new.text c.loop-sample.invariant
-    (c.in_ok-push_point.ensures ∙ ap (λ n. c.loop-sample.text ++ point curves (get_or heads sample 0) stretches n) c.sample_tick.ensures.tick)
+    parts-sample (sample_point curves heads stretches) sample c.args.text.now c.loop-sample.text c.push_point.new.text
+    c.loop-sample.invariant
+    (c.in_ok-push_point.ensures
+    ∙ ap (λ n. c.loop-sample.text ++ point curves (get_or heads sample 0) stretches n) c.sample_tick.ensures.tick)

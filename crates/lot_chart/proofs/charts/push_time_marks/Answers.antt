@@ -27,12 +27,17 @@ loop-mark-preserved c =
     let curves = c.args.curves.now in
     let last = last_end curves.stretches in
     let mark = c.loop-mark.mark in
-    let step : c.axis_step-step.result ≡ axis_step last = c.axis_step-step.ensures.exact ∙ ap axis_step c.last-last.ensures.last in
+    let step : c.axis_step-step.result ≡ axis_step last = c.axis_step-step.ensures.exact
+    ∙ ap axis_step c.last-last.ensures.last in
     let first : c.lead-first.result ≡ lead (axis_step last) curves.origin =
-    c.lead-first.ensures.exact ∙ ap (λ n. lead n c.origin-origin.result) step ∙ ap (lead (axis_step last)) c.origin-origin.ensures.origin in
-    let tick : c.lead-first.result + mark * c.axis_step-step.result ≡ lead (axis_step last) curves.origin + mark * axis_step last =
-    ap (λ n. n + mark * c.axis_step-step.result) first ∙ ap (λ n. lead (axis_step last) curves.origin + mark * n) step in
-    parts-more (time_mark curves) (λ n. lead (axis_step last) curves.origin + n * axis_step last) mark c.args.text.now c.loop-mark.text c.push_time_mark.new.text c.loop-mark.invariant
+    c.lead-first.ensures.exact ∙ ap (λ n. lead n c.origin-origin.result) step
+    ∙ ap (lead (axis_step last)) c.origin-origin.ensures.origin in
+    let tick : c.lead-first.result + mark * c.axis_step-step.result ≡ lead (axis_step last) curves.origin + mark
+    * axis_step last =
+    ap (λ n. n + mark * c.axis_step-step.result) first
+    ∙ ap (λ n. lead (axis_step last) curves.origin + mark * n) step in
+    parts-more (time_mark curves) (λ n. lead (axis_step last) curves.origin + n * axis_step last) mark c.args.text.now
+    c.loop-mark.text c.push_time_mark.new.text c.loop-mark.invariant
     (c.in_ok-push_time_mark.ensures ∙ ap (λ n. c.loop-mark.text ++ time_mark curves n) tick)
 
 pub returns : goal.returns
@@ -40,7 +45,10 @@ returns c =
     let curves = c.args.curves.now in
     let last = last_end curves.stretches in
     let count : c.time_mark_count-mark-end.result ≡ time_mark_count curves.origin last =
-    c.time_mark_count-mark-end.ensures.exact ∙ (λ i. time_mark_count (c.origin-origin.ensures.origin i) (c.last-last.ensures.last i)) in
-    let all : c.loop-mark.mark ≡ time_mark_count curves.origin last + 1 = omega (arith, c.loop-mark-test.false, c.loop-mark.auto.mark-end, count) in
+    c.time_mark_count-mark-end.ensures.exact
+    ∙ (λ i. time_mark_count (c.origin-origin.ensures.origin i) (c.last-last.ensures.last i)) in
+    let all : c.loop-mark.mark ≡ time_mark_count curves.origin last + 1 =
+    omega (arith, c.loop-mark-test.false, c.loop-mark.auto.mark-end, count) in
     c.loop-mark.invariant
-    ∙ ap (λ n. c.args.text.now ++ flat_map (time_mark curves) (map (λ k. lead (axis_step last) curves.origin + k * axis_step last) (range_with_len 0 n))) all
+    ∙ ap (λ n. c.args.text.now ++ flat_map (time_mark curves)
+    (map (λ k. lead (axis_step last) curves.origin + k * axis_step last) (range_with_len 0 n))) all

@@ -11,4 +11,5 @@ loop-sample-preserved c =
     let new : c.top_at.result ≡ top (at sample) = c.top_at.ensures ∙ ap top c.sample_tick.ensures.tick in
     let more : map top (map at (range_with_len 0 (sample + 1))) ≡ map top before ++ top (at sample) ∷ [] =
     ap (map top) (map-range_with_len_more at 0 sample sample (omega arith)) ∙ map_push top before (at sample) in
-    c.in_ok-push.ensures.items ∙ ap (λ xs. xs ++ c.top_at.result ∷ []) c.loop-sample.invariant ∙ ap (λ n. map top before ++ n ∷ []) new ∙ sym more
+    c.in_ok-push.ensures.items ∙ ap (λ xs. xs ++ c.top_at.result ∷ []) c.loop-sample.invariant
+    ∙ ap (λ n. map top before ++ n ∷ []) new ∙ sym more

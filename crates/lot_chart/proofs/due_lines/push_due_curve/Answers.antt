@@ -9,5 +9,7 @@ returns c =
     on_ok_weaker c.push_stroke.result
     (λ last due shown are is.
     let put = due_points c.args.curves.now due shown c.args.tops.now line.thread in
-    parts-two c.args.text.now before (put ++ after) c.push.new.self c.push_stroke.new.text c.in_ok-push.ensures (parts-two c.push.new.self put after c.push_due_points.new.text c.push_stroke.new.text (c.in_ok-push_due_points.ensures due shown are is) last))
+    parts-two c.args.text.now before (put ++ after) c.push.new.self c.push_stroke.new.text c.in_ok-push.ensures
+    (parts-two c.push.new.self put after c.push_due_points.new.text c.push_stroke.new.text
+    (c.in_ok-push_due_points.ensures due shown are is) last))
     c.push_stroke.ensures

@@ -7,5 +7,7 @@ returns c =
     on_ok_weaker c.push-2.result
     (λ last due shown are is.
     let put = flat_map (due_curve c.args.curves.now due shown c.args.tops.now) c.args.lines.now in
-    parts-two c.args.text.now _ (put ++ after) c.push.new.self c.push-2.new.self c.in_ok-push.ensures (parts-two c.push.new.self put after c.push_lines.new.text c.push-2.new.self (c.in_ok-push_lines.ensures due shown are is) last))
+    parts-two c.args.text.now _ (put ++ after) c.push.new.self c.push-2.new.self c.in_ok-push.ensures
+    (parts-two c.push.new.self put after c.push_lines.new.text c.push-2.new.self
+    (c.in_ok-push_lines.ensures due shown are is) last))
     c.push-2.ensures

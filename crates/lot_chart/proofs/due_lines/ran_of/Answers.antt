@@ -11,4 +11,5 @@ loop-sample-preserved c =
     let new : c.total_at.result ≡ all (at sample) = c.total_at.ensures ∙ ap all c.sample_tick.ensures.tick in
     let more : map all (map at (range_with_len 0 (sample + 1))) ≡ map all before ++ all (at sample) ∷ [] =
     ap (map all) (map-range_with_len_more at 0 sample sample (omega arith)) ∙ map_push all before (at sample) in
-    c.in_ok-push.ensures.items ∙ ap (λ xs. xs ++ c.total_at.result ∷ []) c.loop-sample.invariant ∙ ap (λ n. map all before ++ n ∷ []) new ∙ sym more
+    c.in_ok-push.ensures.items ∙ ap (λ xs. xs ++ c.total_at.result ∷ []) c.loop-sample.invariant
+    ∙ ap (λ n. map all before ++ n ∷ []) new ∙ sym more

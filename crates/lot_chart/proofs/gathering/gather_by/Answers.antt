@@ -8,7 +8,9 @@ pub returns-clause-curves : goal.returns-clause-curves
 returns-clause-curves c =
     let noted = c.in_ok-stretches.ensures in
     c.new.ensures
-    ∙ gathered c.args.by c.args.program.now c.note_turns.new.playback.seen c.in_ok-names.names.items c.in_ok-stretches.stretches.items c.in_ok-stretches.commands.items refl noted.made c.in_ok-names.ensures.names noted.noted noted.commands
+    ∙ gathered c.args.by c.args.program.now c.note_turns.new.playback.seen c.in_ok-names.names.items
+    c.in_ok-stretches.stretches.items c.in_ok-stretches.commands.items refl noted.made c.in_ok-names.ensures.names
+    noted.noted noted.commands
 
 pub returns-clause-stopped : goal.returns-clause-stopped
 returns-clause-stopped c =

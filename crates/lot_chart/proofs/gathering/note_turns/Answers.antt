@@ -8,13 +8,16 @@ pub returns-clause-commands : goal.returns-clause-commands
 returns-clause-commands c = c.in_ok-play_through.ensures.observed.1.commands_are
 
 pub returns-clause-few : goal.returns-clause-few
-returns-clause-few c = omega (arith, c.in_ok-play_through.ensures.observed.1.few, c.play_through.new.observer.stretches.ok.0)
+returns-clause-few c =
+    omega (arith, c.in_ok-play_through.ensures.observed.1.few, c.play_through.new.observer.stretches.ok.0)
 
 pub returns-clause-early : goal.returns-clause-early
-returns-clause-early c = omega (arith, c.in_ok-play_through.ensures.observed.1.early, program-few c.args.program.now c.schedule-schedule.ensures.legal)
+returns-clause-early c = omega
+    (arith, c.in_ok-play_through.ensures.observed.1.early, program-few c.args.program.now c.schedule-schedule.ensures.legal)
 
 pub returns-clause-stopped : goal.returns-clause-stopped
-returns-clause-stopped c = search (rules, c.in_ok-play_through.ensures.observed.2, c.in_ok-play_through.ensures.observed.3)
+returns-clause-stopped c =
+    search (rules, c.in_ok-play_through.ensures.observed.2, c.in_ok-play_through.ensures.observed.3)
 
 pub returns-clause-ended : goal.returns-clause-ended
 returns-clause-ended c = c.in_ok-play_through.ensures.ended

@@ -17,9 +17,12 @@ loop-currency-preserved c =
             low = omega (arith, i.low);
             within = omega (arith, i.low, c.loop-currency-test.true);
             columns = λ s t given those.
-                let put = told.pushed ∙ ap (λ (y : Stretch). items ++ y ∷ []) w.in_column.ensures ∙ sym (ap (λ b. if b then items ++ in_column n x ∷ [] else items) w.if-has.true) in
-                found-more x s t c.args.above.now n c.has.result c.args.stretches.now.items items _ i.low (omega (arith, given, c.loop-currency-test.true)) c.has.ensures those (i.columns s t given those) put
-                ∙ ap (λ k. c.args.stretches.now.items ++ map (λ d. in_column d x) (filter (λ d. stands_below s d t) (range_with_len 1 k))) back;
+                let put = told.pushed ∙ ap (λ (y : Stretch). items ++ y ∷ []) w.in_column.ensures
+                ∙ sym (ap (λ b. if b then items ++ in_column n x ∷ [] else items) w.if-has.true) in
+                found-more x s t c.args.above.now n c.has.result c.args.stretches.now.items items _ i.low
+                (omega (arith, given, c.loop-currency-test.true)) c.has.ensures those (i.columns s t given those) put
+                ∙ ap (λ k. c.args.stretches.now.items
+                ++ map (λ d. in_column d x) (filter (λ d. stands_below s d t) (range_with_len 1 k))) back;
             few = told.few;
             early = omega (arith, told.early, kept, i.early);
           })
@@ -29,8 +32,10 @@ loop-currency-preserved c =
             within = omega (arith, i.low, c.loop-currency-test.true);
             columns = λ s t given those.
                 let put = sym (ap (λ b. if b then items ++ in_column n x ∷ [] else items) w.if-has.false) in
-                found-more x s t c.args.above.now n c.has.result c.args.stretches.now.items items _ i.low (omega (arith, given, c.loop-currency-test.true)) c.has.ensures those (i.columns s t given those) put
-                ∙ ap (λ k. c.args.stretches.now.items ++ map (λ d. in_column d x) (filter (λ d. stands_below s d t) (range_with_len 1 k))) back;
+                found-more x s t c.args.above.now n c.has.result c.args.stretches.now.items items _ i.low
+                (omega (arith, given, c.loop-currency-test.true)) c.has.ensures those (i.columns s t given those) put
+                ∙ ap (λ k. c.args.stretches.now.items
+                ++ map (λ d. in_column d x) (filter (λ d. stands_below s d t) (range_with_len 1 k))) back;
             few = i.few;
             early = i.early;
           })
@@ -41,4 +46,6 @@ returns-clause-columns c s t given those =
     let i = c.loop-currency.invariant in
     let x = c.args.stretch in
     i.columns s t given those
-    ∙ ap (λ ns. c.args.stretches.now.items ++ map (λ d. in_column d x) (filter (λ d. stands_below s d t) ns)) (all-numbers s c.args.count c.loop-currency.currency given i.low i.within (omega (arith, c.loop-currency-test.false)))
+    ∙ ap (λ ns. c.args.stretches.now.items ++ map (λ d. in_column d x) (filter (λ d. stands_below s d t) ns))
+    (all-numbers s c.args.count c.loop-currency.currency given i.low i.within
+    (omega (arith, c.loop-currency-test.false)))

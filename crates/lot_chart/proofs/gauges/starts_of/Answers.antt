@@ -9,5 +9,6 @@ loop-sample-preserved c =
     let start : c.start_of-start.result ≡ start_of curves.window (sample_tick (last_end curves.stretches) sample) =
     c.start_of-start.ensures.start ∙ (λ i. start_of (c.window.ensures i) (c.sample_tick.ensures.tick i)) in
     let new : c.origin.result + c.start_of-start.result ≡ at sample = λ i. c.origin.ensures.origin i + start i in
-    c.in_ok-push.ensures.items ∙ ap (λ xs. xs ++ (c.origin.result + c.start_of-start.result) ∷ []) c.loop-sample.invariant ∙ ap (λ n. map at (range_with_len 0 sample) ++ n ∷ []) new
+    c.in_ok-push.ensures.items ∙ ap (λ xs. xs ++ (c.origin.result + c.start_of-start.result) ∷ [])
+    c.loop-sample.invariant ∙ ap (λ n. map at (range_with_len 0 sample) ++ n ∷ []) new
     ∙ sym (map-range_with_len_more at 0 sample sample (omega arith))

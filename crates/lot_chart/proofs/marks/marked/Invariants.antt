@@ -5,5 +5,6 @@ use Rattle.lot_chart.proofs.marks.marked.Given as goal
 abbrev pub invariant-loop-time : goal.invariant-loop-time
 invariant-loop-time l = record {
   places : length l.marks.items ≡ 671;
-  firsts : (k : ℕ) → k < length l.marks.items → get_or l.marks.items k None ≡ first_in l.curves (take l.time-index l.curves.commands) k;
+  firsts : (k : ℕ) → k < length l.marks.items
+      → get_or l.marks.items k None ≡ first_in l.curves (take l.time-index l.curves.commands) k;
 }

@@ -7,6 +7,9 @@ loop-standing-preserved c =
     let index = c.loop-standing.standing-index in
     record {
       count = omega (arith, c.in_ok-push.ensures.len, i.count);
-      each = new-one c.args.shown.now c.loop-standing.gauges.items c.push.new.self.items index c.new.result _ c.in_ok-push.ensures.items i.count (record { growth_is = c.new.ensures.growth; sum = c.new.ensures.none; starts = c.new.ensures.starts; ends = c.new.ensures.ends })
-          (λ e. ap (λ (s : Standing). s.thread) (get_or_default c.args.shown.now index _ e c.loop-standing-test.true)) i.each;
+      each = new-one c.args.shown.now c.loop-standing.gauges.items c.push.new.self.items index c.new.result _
+          c.in_ok-push.ensures.items i.count
+          (record { growth_is = c.new.ensures.growth; sum = c.new.ensures.none; starts = c.new.ensures.starts; ends = c.new.ensures.ends })
+          (λ e. ap (λ (s : Standing). s.thread) (get_or_default c.args.shown.now index _ e c.loop-standing-test.true))
+          i.each;
     }

@@ -5,5 +5,6 @@ use Rattle.lot_chart.proofs.metering.gauges_of.Given as goal
 abbrev pub invariant-loop-standing : goal.invariant-loop-standing
 invariant-loop-standing l = record {
   count : length l.gauges.items ≡ l.standing-index;
-  each : (place : ℕ) (d : Gauge) (e : Standing) → place < l.standing-index → IsNew (Due (slice_index_or l.shown place e).thread 0) (slice_index_or l.gauges.items place d);
+  each : (place : ℕ) (d : Gauge) (e : Standing) → place < l.standing-index
+      → IsNew (Due (slice_index_or l.shown place e).thread 0) (slice_index_or l.gauges.items place d);
 }

@@ -4,24 +4,33 @@ use Rattle.lot_chart.proofs.showing.chart_bytes.Goals as goal
 pub returns-in-Ok-clause-shown : goal.returns-in-Ok-clause-shown
 returns-in-Ok-clause-shown g c =
     let text : Program → List ℕ = λ program. chart c.args.title.now (dues_by Thread program) (curves_of program) in
-    subst (λ (given : Result Program InputFault). Plays g.W.Write.contents c.args.writer.now c.chart_program.new.writer c.chart_program.result (came_of given) (shown_of text given)) (sym c.in-Ok.ensures.program) c.chart_program.ensures.shown
+    subst (λ (given : Result Program InputFault). Plays g.W.Write.contents c.args.writer.now c.chart_program.new.writer
+    c.chart_program.result (came_of given) (shown_of text given))
+    (sym c.in-Ok.ensures.program) c.chart_program.ensures.shown
 
 pub returns-in-Ok-clause-stopped : goal.returns-in-Ok-clause-stopped
 returns-in-Ok-clause-stopped g c =
     let old = c.args.warnings.now.stopped in
     let new = c.chart_program.new.warnings.stopped in
-    subst (λ (given : Result Program InputFault). OnOk c.chart_program.result (MatchResult given (λ program. new ≡ (old || ends_refused program)) (λ fault. new ≡ old))) (sym c.in-Ok.ensures.program) c.chart_program.ensures.stopped
+    subst (λ (given : Result Program InputFault). OnOk c.chart_program.result
+    (MatchResult given (λ program. new ≡ (old || ends_refused program)) (λ fault. new ≡ old)))
+    (sym c.in-Ok.ensures.program) c.chart_program.ensures.stopped
 
 pub returns-in-Err-Input-clause-shown : goal.returns-in-Err-Input-clause-shown
 returns-in-Err-Input-clause-shown g c =
-    let is : program_in c.args.bytes.now ≡ Err c.in-Err-Input.fault = rw c.in-Err-Input.field-0-is at c.in-Err-Input.ensures.fault in
+    let is : program_in c.args.bytes.now ≡ Err c.in-Err-Input.fault =
+    rw c.in-Err-Input.field-0-is at c.in-Err-Input.ensures.fault in
     let text : Program → List ℕ = λ program. chart c.args.title.now (dues_by Thread program) (curves_of program) in
-    subst (λ (given : Result Program InputFault). Plays g.W.Write.contents c.args.writer.now c.refuse.new.writer c.refuse.result (came_of given) (shown_of text given)) (sym is) (rw c.in-Err-Input.field-0-is at c.refuse.ensures.played)
+    subst (λ (given : Result Program InputFault). Plays g.W.Write.contents c.args.writer.now c.refuse.new.writer
+    c.refuse.result (came_of given) (shown_of text given)) (sym is)
+    (rw c.in-Err-Input.field-0-is at c.refuse.ensures.played)
 
 pub returns-in-Err-Input-clause-stopped : goal.returns-in-Err-Input-clause-stopped
 returns-in-Err-Input-clause-stopped g c =
-    let is : program_in c.args.bytes.now ≡ Err c.in-Err-Input.fault = rw c.in-Err-Input.field-0-is at c.in-Err-Input.ensures.fault in
+    let is : program_in c.args.bytes.now ≡ Err c.in-Err-Input.fault =
+    rw c.in-Err-Input.field-0-is at c.in-Err-Input.ensures.fault in
     let old = c.args.warnings.now.stopped in
     on_ok_weaker c.refuse.result
-    (λ done. subst (λ (given : Result Program InputFault). MatchResult given (λ program. old ≡ (old || ends_refused program)) (λ fault. old ≡ old)) (sym is) refl)
+    (λ done. subst (λ (given : Result Program InputFault).
+    MatchResult given (λ program. old ≡ (old || ends_refused program)) (λ fault. old ≡ old)) (sym is) refl)
     c.refuse.ensures.flushed

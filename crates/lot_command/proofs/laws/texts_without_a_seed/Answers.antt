@@ -3,19 +3,24 @@ use Rattle.lot_chart.specs.Shown as charts
 use Rattle.lot_command.specs.declared.command_line.request.View.TheVariants as views
 use Rattle.lot_command.proofs.laws.texts_without_a_seed.Goals as goal
 
-play-is : (title : List ℕ) (input : Result Program InputFault) → shown_of views.Play title (seeded None input) ≡ output_of input
+play-is : (title : List ℕ) (input : Result Program InputFault)
+    → shown_of views.Play title (seeded None input) ≡ output_of input
 play-is title (Ok program) = refl
 play-is title (Err fault) = refl
 
-explain-is : (detail : Detail) (title : List ℕ) (input : Result Program InputFault) → shown_of (views.Explain detail) title (seeded None input) ≡ explained_of detail input
+explain-is : (detail : Detail) (title : List ℕ) (input : Result Program InputFault)
+    → shown_of (views.Explain detail) title (seeded None input) ≡ explained_of detail input
 explain-is detail title (Ok program) = refl
 explain-is detail title (Err fault) = refl
 
-shares-is : (measure : Measure) (title : List ℕ) (input : Result Program InputFault) → shown_of (views.Shares measure None None) title (seeded None input) ≡ charts.shown_of (λ program. table measure (curves_of program)) input
+shares-is : (measure : Measure) (title : List ℕ) (input : Result Program InputFault)
+    → shown_of (views.Shares measure None None) title (seeded None input)
+    ≡ charts.shown_of (λ program. table measure (curves_of program)) input
 shares-is measure title (Ok program) = refl
 shares-is measure title (Err fault) = refl
 
-chart-is : (title : List ℕ) (input : Result Program InputFault) → shown_of (views.Chart Thread None None) title (seeded None input) ≡ charts.shown_of (λ program. chart title (dues_by Thread program) (curves_of program)) input
+chart-is : (title : List ℕ) (input : Result Program InputFault) → shown_of (views.Chart Thread None None) title
+    (seeded None input) ≡ charts.shown_of (λ program. chart title (dues_by Thread program) (curves_of program)) input
 chart-is title (Ok program) = refl
 chart-is title (Err fault) = refl
 

@@ -6,5 +6,6 @@ abbrev pub invariant-loop-place : goal.invariant-loop-place
 invariant-loop-place l = record {
   below : l.running ≤ l.number;
   passed : l.running + sum (drop l.place l.weights) ≡ sum l.weights;
-  sought : l.place + first_above l.number (running_sums l.running (drop l.place l.weights)) ≡ first_above l.number (running_sums 0 l.weights);
+  sought : l.place + first_above l.number (running_sums l.running (drop l.place l.weights))
+      ≡ first_above l.number (running_sums 0 l.weights);
 }

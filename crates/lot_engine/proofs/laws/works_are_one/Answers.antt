@@ -8,4 +8,5 @@ pub returns-clause-fresh : goal.returns-clause-fresh
 returns-clause-fresh c = fresh-matches
 
 pub returns-clause-never_stale : goal.returns-clause-never_stale
-returns-clause-never_stale c seen actor work other given is matches fault = fault.1 (fresh-matches seen actor other given fault.0 (work, is, matches))
+returns-clause-never_stale c seen actor work other given is matches fault =
+    fault.1 (fresh-matches seen actor other given fault.0 (work, is, matches))

@@ -18,4 +18,5 @@ returns-in_ok-write_out-in-Timed g c =
     let h = c.args.heading in
     let s = c.args.settled.kernel.now.state in
     let text = funding-timed c.args.lottery h.style _ h.unit h.actor s c.in-OfProcessor.is c.in-Timed.is in
-    rw text (put-written old mid new c.args.page.now c.write_out.new.self (funding_lines h.style h.unit h.actor s) c.write_funding.new.writer.failed c.write_funding.result told.none told.text.1 c.write_funding.ensures)
+    rw text (put-written old mid new c.args.page.now c.write_out.new.self (funding_lines h.style h.unit h.actor s)
+    c.write_funding.new.writer.failed c.write_funding.result told.none told.text.1 c.write_funding.ensures)

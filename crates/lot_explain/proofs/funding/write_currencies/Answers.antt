@@ -11,8 +11,11 @@ returns-in_err-write_currency g c =
     rw is (
       told.0,
       told.1,
-      range-stops (g.W.Write.contents c.args.writer.now.inner) (g.W.Write.contents c.loop-number.writer.inner) (g.W.Write.contents c.write_currency.new.writer.inner) (currency_funds h.style h.unit h.actor s) 0 c.loop-number.number
-          (length s.currencies) (c.loop-number.number) (omega (arith, c.loop-number-test.true, c.currency_count-number-end.ensures.count)) (omega arith) i.bytes told.2,
+      range-stops (g.W.Write.contents c.args.writer.now.inner) (g.W.Write.contents c.loop-number.writer.inner)
+          (g.W.Write.contents c.write_currency.new.writer.inner)
+          (currency_funds h.style h.unit h.actor s) 0 c.loop-number.number
+          (length s.currencies) (c.loop-number.number) (omega
+          (arith, c.loop-number-test.true, c.currency_count-number-end.ensures.count)) (omega arith) i.bytes told.2,
     )
 
 pub loop-number-preserved : goal.loop-number-preserved
@@ -23,6 +26,8 @@ loop-number-preserved g c =
     let s = c.args.settled.kernel.now.state in
     record {
       working = told.0;
-      bytes = range-more (g.W.Write.contents c.args.writer.now.inner) (g.W.Write.contents c.loop-number.writer.inner) (g.W.Write.contents c.write_currency.new.writer.inner) (currency_funds h.style h.unit h.actor s) 0 c.loop-number.number (c.loop-number.number)
+      bytes = range-more (g.W.Write.contents c.args.writer.now.inner) (g.W.Write.contents c.loop-number.writer.inner)
+          (g.W.Write.contents c.write_currency.new.writer.inner)
+          (currency_funds h.style h.unit h.actor s) 0 c.loop-number.number (c.loop-number.number)
           (omega arith) i.bytes told.1;
     }

@@ -17,5 +17,7 @@ returns g c =
     let s = c.args.settled.kernel.now.state in
     let tickets = flat_map (ticket_funds h.style h.unit h.actor s) (numbers s.tickets) in
     let currencies = flat_map (currency_funds h.style h.unit h.actor s) (range_with_len 0 (length s.currencies)) in
-    writes-after (g.W.Write.contents c.args.writer.now.inner) (g.W.Write.contents c.write_tickets.new.writer.inner) (g.W.Write.contents c.write_currencies.new.writer.inner) c.write_currencies.new.writer.failed c.write_currencies.result tickets currencies
+    writes-after (g.W.Write.contents c.args.writer.now.inner) (g.W.Write.contents c.write_tickets.new.writer.inner)
+    (g.W.Write.contents c.write_currencies.new.writer.inner) c.write_currencies.new.writer.failed
+    c.write_currencies.result tickets currencies
     c.in_ok-write_tickets.ensures.1 c.write_currencies.ensures

@@ -11,8 +11,11 @@ returns-in_err-write_ticket g c =
     rw is (
       told.0,
       told.1,
-      range-stops (g.W.Write.contents c.args.writer.now.inner) (g.W.Write.contents c.loop-place.writer.inner) (g.W.Write.contents c.write_ticket.new.writer.inner) (ticket_funds h.style h.unit h.actor s) 1 c.loop-place.place
-          (length s.tickets) (c.loop-place.place + 1) (omega (arith, c.loop-place-test.true, c.ticket_count-place-end.ensures)) (omega arith) i.bytes told.2,
+      range-stops (g.W.Write.contents c.args.writer.now.inner) (g.W.Write.contents c.loop-place.writer.inner)
+          (g.W.Write.contents c.write_ticket.new.writer.inner)
+          (ticket_funds h.style h.unit h.actor s) 1 c.loop-place.place
+          (length s.tickets) (c.loop-place.place + 1)
+          (omega (arith, c.loop-place-test.true, c.ticket_count-place-end.ensures)) (omega arith) i.bytes told.2,
     )
 
 pub loop-place-preserved : goal.loop-place-preserved
@@ -23,6 +26,8 @@ loop-place-preserved g c =
     let s = c.args.settled.kernel.now.state in
     record {
       working = told.0;
-      bytes = range-more (g.W.Write.contents c.args.writer.now.inner) (g.W.Write.contents c.loop-place.writer.inner) (g.W.Write.contents c.write_ticket.new.writer.inner) (ticket_funds h.style h.unit h.actor s) 1 c.loop-place.place (c.loop-place.place + 1)
+      bytes = range-more (g.W.Write.contents c.args.writer.now.inner) (g.W.Write.contents c.loop-place.writer.inner)
+          (g.W.Write.contents c.write_ticket.new.writer.inner)
+          (ticket_funds h.style h.unit h.actor s) 1 c.loop-place.place (c.loop-place.place + 1)
           (omega arith) i.bytes told.1;
     }

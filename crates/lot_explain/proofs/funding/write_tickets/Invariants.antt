@@ -5,5 +5,7 @@ use Rattle.lot_explain.proofs.funding.write_tickets.Given as goal
 abbrev pub invariant-loop-place : goal.invariant-loop-place
 invariant-loop-place g l = record {
   working : l.writer.failed ≡ false;
-  bytes : Appends (g.W.Write.contents l.initial.writer.inner) (g.W.Write.contents l.writer.inner) (flat_map (ticket_funds l.heading.style l.heading.unit l.heading.actor l.settled.kernel.now.state) (range_with_len 1 l.place));
+  bytes : Appends (g.W.Write.contents l.initial.writer.inner) (g.W.Write.contents l.writer.inner)
+      (flat_map (ticket_funds l.heading.style l.heading.unit l.heading.actor l.settled.kernel.now.state)
+      (range_with_len 1 l.place));
 }

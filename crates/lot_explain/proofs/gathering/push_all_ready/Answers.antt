@@ -11,11 +11,14 @@ loop-place-preserved c =
       system = told.same ∙ i.system;
       capacity = told.room ∙ i.capacity;
       few = omega (arith, told.few, i.few);
-      lots = each-more lot_if_ready s (world_of c.loop-place.system).state c.loop-place.place c.loop-place.lots.items c.push_if_ready.new.lots.items same i.lots told.lots;
+      lots = each-more lot_if_ready s (world_of c.loop-place.system).state c.loop-place.place c.loop-place.lots.items
+          c.push_if_ready.new.lots.items same i.lots told.lots;
     }
 
 pub returns-clause-lots : goal.returns-clause-lots
 returns-clause-lots c =
     let s = (world_of c.args.system.now).state in
-    let all : c.loop-place.place ≡ length s.records = omega (arith, c.loop-place-test.false, c.loop-place.auto.place-end, c.thread_count-place-end.ensures.count) in
-    c.loop-place.invariant.lots ∙ ap (λ n. flat_map (lot_if_ready s) (range_with_len 1 n)) all ∙ ready-lots s (numbers s.records)
+    let all : c.loop-place.place ≡ length s.records =
+    omega (arith, c.loop-place-test.false, c.loop-place.auto.place-end, c.thread_count-place-end.ensures.count) in
+    c.loop-place.invariant.lots ∙ ap (λ n. flat_map (lot_if_ready s) (range_with_len 1 n)) all
+    ∙ ready-lots s (numbers s.records)

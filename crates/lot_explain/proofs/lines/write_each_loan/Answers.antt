@@ -10,7 +10,9 @@ returns-in_err-write_loan g c =
     rw is (
       told.0,
       told.1,
-      texts-stop (loan_line h.style h.unit h.actor) c.args.loans.now c.loop-loan.loan-index x x (search rules) c.loan-item.is (g.W.Write.contents c.args.writer.now.inner) (g.W.Write.contents c.loop-loan.writer.inner) (g.W.Write.contents c.write_loan.new.writer.inner)
+      texts-stop (loan_line h.style h.unit h.actor) c.args.loans.now c.loop-loan.loan-index x x
+          (search rules) c.loan-item.is (g.W.Write.contents c.args.writer.now.inner)
+          (g.W.Write.contents c.loop-loan.writer.inner) (g.W.Write.contents c.write_loan.new.writer.inner)
           c.loop-loan.invariant.bytes told.2,
     )
 
@@ -21,6 +23,8 @@ loop-loan-preserved g c =
     let x = c.loan-item.result in
     record {
       working = told.0;
-      bytes = texts-more (loan_line h.style h.unit h.actor) c.args.loans.now c.loop-loan.loan-index x x (search rules) c.loan-item.is (g.W.Write.contents c.args.writer.now.inner) (g.W.Write.contents c.loop-loan.writer.inner) (g.W.Write.contents c.write_loan.new.writer.inner)
+      bytes = texts-more (loan_line h.style h.unit h.actor) c.args.loans.now c.loop-loan.loan-index x x
+          (search rules) c.loan-item.is (g.W.Write.contents c.args.writer.now.inner)
+          (g.W.Write.contents c.loop-loan.writer.inner) (g.W.Write.contents c.write_loan.new.writer.inner)
           c.loop-loan.invariant.bytes told.1;
     }

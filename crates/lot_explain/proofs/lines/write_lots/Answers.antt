@@ -11,7 +11,9 @@ returns-in_err-write_lot g c =
     rw is (
       told.0,
       told.1,
-      lines-stop h.style h.unit h.actor c.args.won c.args.lots.now c.loop-lot.lot-index x x (search rules) c.lot-item.is c.loop-lot.first i.first (g.W.Write.contents c.args.writer.now.inner) (g.W.Write.contents c.loop-lot.writer.inner) (g.W.Write.contents c.write_lot.new.writer.inner) i.bytes told.2,
+      lines-stop h.style h.unit h.actor c.args.won c.args.lots.now c.loop-lot.lot-index x x
+          (search rules) c.lot-item.is c.loop-lot.first i.first (g.W.Write.contents c.args.writer.now.inner)
+          (g.W.Write.contents c.loop-lot.writer.inner) (g.W.Write.contents c.write_lot.new.writer.inner) i.bytes told.2,
     )
 
 pub loop-lot-preserved : goal.loop-lot-preserved
@@ -25,6 +27,8 @@ loop-lot-preserved g c =
     let new = g.W.Write.contents c.write_lot.new.writer.inner in
     record {
       working = told.0;
-      first = first-more h.style h.unit h.actor c.args.won c.args.lots.now c.loop-lot.lot-index x x (search rules) c.lot-item.is c.loop-lot.first i.first old mid new i.bytes;
-      bytes = lines-more h.style h.unit h.actor c.args.won c.args.lots.now c.loop-lot.lot-index x x (search rules) c.lot-item.is c.loop-lot.first i.first old mid new i.bytes told.1;
+      first = first-more h.style h.unit h.actor c.args.won c.args.lots.now c.loop-lot.lot-index x x
+          (search rules) c.lot-item.is c.loop-lot.first i.first old mid new i.bytes;
+      bytes = lines-more h.style h.unit h.actor c.args.won c.args.lots.now c.loop-lot.lot-index x x
+          (search rules) c.lot-item.is c.loop-lot.first i.first old mid new i.bytes told.1;
     }

@@ -21,4 +21,6 @@ returns g c =
     let mid = g.W.Write.contents c.write_lots.new.writer.inner in
     let new = g.W.Write.contents c.write_loans.new.writer.inner in
     let text = ap lots c.as_slice.ensures in
-    rw (sym text, sym (ap loans c.loans.ensures)) (writes-after old mid new c.write_loans.new.writer.failed c.write_loans.result (lots c.as_slice.result.now) (loans c.loans.result.now) c.in_ok-write_lots.ensures.1 c.write_loans.ensures)
+    rw (sym text, sym (ap loans c.loans.ensures))
+    (writes-after old mid new c.write_loans.new.writer.failed c.write_loans.result (lots c.as_slice.result.now)
+    (loans c.loans.result.now) c.in_ok-write_lots.ensures.1 c.write_loans.ensures)

@@ -9,11 +9,14 @@ loop-place-preserved c =
     record {
       capacity = told.room ∙ i.capacity;
       few = omega (arith, told.few, i.few);
-      loans = each-more loan_of s s c.loop-place.place c.loop-place.loans.items c.push_if_lends.new.loans.items refl i.loans told.loans;
+      loans = each-more loan_of s s c.loop-place.place c.loop-place.loans.items c.push_if_lends.new.loans.items refl
+          i.loans told.loans;
     }
 
 pub returns-clause-loans : goal.returns-clause-loans
 returns-clause-loans c =
     let s = (world_of c.args.system.now).state in
-    let all : c.loop-place.place ≡ length s.records = omega (arith, c.loop-place-test.false, c.loop-place.auto.place-end, c.thread_count-threads.ensures.count) in
-    (rw c.settle-settled.ensures.state at c.loop-place.invariant.loans) ∙ ap (λ n. flat_map (loan_of s) (range_with_len 1 n)) all
+    let all : c.loop-place.place ≡ length s.records =
+    omega (arith, c.loop-place-test.false, c.loop-place.auto.place-end, c.thread_count-threads.ensures.count) in
+    (rw c.settle-settled.ensures.state at c.loop-place.invariant.loans)
+    ∙ ap (λ n. flat_map (loan_of s) (range_with_len 1 n)) all

@@ -31,7 +31,8 @@ loop-preserved g c =
       room = i.room;
       working = told.ok;
       grows = omega (arith, longer, old, now, i.grows, c.if-branch-eq0.false);
-      consumed = consumes-more first left rest c.loop.bytes.items c.read_piece.new.bytes.items count told.read i.consumed;
+      consumed =
+          consumes-more first left rest c.loop.bytes.items c.read_piece.new.bytes.items count told.read i.consumed;
     }
 
 pub returns-clause-read : goal.returns-clause-read
@@ -39,16 +40,20 @@ returns-clause-read g c =
     let i = c.loop.invariant in
     let old = c.loop.bytes.ok.0 in
     elim c.loop-test.branch [
-      | else-loop-test w ↦ rw (w.reader-is, w.bytes-is) (record { consumed = i.consumed; most = omega (arith, i.most, old); whole = λ below. absurd (omega (arith, below, old, i.grows, w.loop-test.false)) })
-      | then-loop-test+then-len-eq-MOST w ↦ rw (w.reader-is, w.bytes-is) (record { consumed = i.consumed; most = omega (arith, i.most, old); whole = λ below. absurd (omega (arith, below, old, w.len.ensures, w.if-len-eq-MOST.true)) })
+      | else-loop-test w ↦ rw (w.reader-is, w.bytes-is)
+          (record { consumed = i.consumed; most = omega (arith, i.most, old); whole = λ below. absurd (omega (arith, below, old, i.grows, w.loop-test.false)) })
+      | then-loop-test+then-len-eq-MOST w ↦ rw (w.reader-is, w.bytes-is)
+          (record { consumed = i.consumed; most = omega (arith, i.most, old); whole = λ below. absurd (omega (arith, below, old, w.len.ensures, w.if-len-eq-MOST.true)) })
       | then-loop-test+else-len-eq-MOST+in_ok-read_piece+then-branch-eq0 w ↦
           let told = w.in_ok-read_piece.ensures in
           let first = g.R.Read.remaining c.args.reader.now.inner in
           let left = g.R.Read.remaining c.loop.reader.inner in
           let rest = g.R.Read.remaining w.read_piece.new.reader.inner in
-          let longer = length-more first left rest c.loop.bytes.items w.read_piece.new.bytes.items w.in_ok-read_piece.field-0 told.read in
+          let longer = length-more first left rest c.loop.bytes.items w.read_piece.new.bytes.items
+          w.in_ok-read_piece.field-0 told.read in
           rw (w.reader-is, w.bytes-is) (record {
-            consumed = consumes-more first left rest c.loop.bytes.items w.read_piece.new.bytes.items w.in_ok-read_piece.field-0 told.read i.consumed;
+            consumed = consumes-more first left rest c.loop.bytes.items w.read_piece.new.bytes.items
+                w.in_ok-read_piece.field-0 told.read i.consumed;
             most = omega (arith, longer, w.if-branch-eq0.true, i.most, old);
             whole = λ below. told.read.at_end w.if-branch-eq0.true;
           })
@@ -59,5 +64,6 @@ returns-clause-ok g c =
     elim c.loop-test.branch [
       | else-loop-test w ↦ rw w.reader-is c.loop.invariant.working
       | then-loop-test+then-len-eq-MOST w ↦ rw w.reader-is c.loop.invariant.working
-      | then-loop-test+else-len-eq-MOST+in_ok-read_piece+then-branch-eq0 w ↦ rw w.reader-is w.in_ok-read_piece.ensures.ok
+      | then-loop-test+else-len-eq-MOST+in_ok-read_piece+then-branch-eq0 w ↦
+          rw w.reader-is w.in_ok-read_piece.ensures.ok
     ]

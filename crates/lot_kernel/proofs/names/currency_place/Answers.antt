@@ -4,7 +4,8 @@ use Rattle.lot_kernel.proofs.names.currency_place.Goals as goal
 pub returns-in_err-places : goal.returns-in_err-places
 returns-in_err-places c =
     let v = c.args.index.now in
-    let none = none-meant (length v.lists) c.args.name.now (λ x. x) c.args.currencies.now (no-bucket v c.args.name.now c.in_err-places.ensures) in
+    let none = none-meant (length v.lists) c.args.name.now (λ x. x) c.args.currencies.now
+    (no-bucket v c.args.name.now c.in_err-places.ensures) in
     search (rules, none)
 
 pub returns : goal.returns
@@ -15,7 +16,9 @@ returns c =
     let named = option_any (bytes_eq name) in
     let (bucket, has, places) = bucket-of v name c.in_ok-places.places c.in_ok-places.ensures in
     let found = min_from_yields_List {v = λ x. x} c.filter.result c.min.result c.min.ensures.ran
-    (YieldsList-from_filter _ (λ place. option_any named (slice_get table place)) (YieldsList-from_first (λ x. x) (λ rest. rest) _ (c.filter.ensures.source ∙ sym places)) c.filter.ensures.closure (λ x r q k. search (rules, tests))) in
+    (YieldsList-from_filter _ (λ place. option_any named (slice_get table place))
+    (YieldsList-from_first (λ x. x) (λ rest. rest) _ (c.filter.ensures.source ∙ sym places)) c.filter.ensures.closure
+    (λ x r q k. search (rules, tests))) in
     sym (option_map_id c.min.result) ∙ found
     ∙ least-first named table None (nodes_of v bucket) (named-listed v table c.requires name bucket has)
     ∙ meant-named (length v.lists) name bucket (λ x. x) table has

@@ -14,4 +14,5 @@ pub returns-clause-set_inside : goal.returns-clause-set_inside
 returns-clause-set_inside c = set-changes-inside
 
 pub returns-clause-run : goal.returns-clause-run
-returns-clause-run c s events currency inside reachable change before after = run-inside s events currency inside reachable change (λ some. after) (λ some. before)
+returns-clause-run c s events currency inside reachable change before after =
+    run-inside s events currency inside reachable change (λ some. after) (λ some. before)

@@ -3,7 +3,8 @@ use Rattle.lot_laws.proofs.CallTaken.{server-gets, others-keep, together-same}
 use Rattle.lot_laws.proofs.transfers.calls_transfer_value.Goals as goal
 
 pub returns-clause-before : goal.returns-clause-before
-returns-clause-before c s server order owns = worth-nothing (funding_of s) (live_of s) s.limits.unit server order.no_cycle owns.0 owns.1
+returns-clause-before c s server order owns =
+    worth-nothing (funding_of s) (live_of s) s.limits.unit server order.no_cycle owns.0 owns.1
 
 pub returns-clause-server : goal.returns-clause-server
 returns-clause-server c = server-gets

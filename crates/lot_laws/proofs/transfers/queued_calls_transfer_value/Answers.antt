@@ -7,7 +7,8 @@ returns-clause-server c = server-gets
 
 pub returns-clause-alone : goal.returns-clause-alone
 returns-clause-alone c s e next caller server order lends queues takes owns =
-    comes-alone (value_of (step (step s e).state next).state server) (value_of s server) (value_of s caller) (server-gets s e next caller server order lends queues takes)
+    comes-alone (value_of (step (step s e).state next).state server) (value_of s server) (value_of s caller)
+    (server-gets s e next caller server order lends queues takes)
     (worth-nothing (funding_of s) (live_of s) s.limits.unit server order.no_cycle owns.0 owns.1)
 
 pub returns-clause-others : goal.returns-clause-others

@@ -7,8 +7,10 @@ returns-clause-server c = server-returns
 
 pub returns-clause-alone : goal.returns-clause-alone
 returns-clause-alone c s e caller server order lends replies owns =
-    comes-alone (value_of s server) (value_of (step s e).state server) (value_of s caller) (server-returns s e caller server order lends replies)
-    (worth-nothing (funding_of (step s e).state) (live_of (step s e).state) (step s e).state.limits.unit server (step-order s e order).no_cycle owns.0 owns.1)
+    comes-alone (value_of s server) (value_of (step s e).state server) (value_of s caller)
+    (server-returns s e caller server order lends replies)
+    (worth-nothing (funding_of (step s e).state) (live_of (step s e).state) (step s e).state.limits.unit server
+    (step-order s e order).no_cycle owns.0 owns.1)
 
 pub returns-clause-caller : goal.returns-clause-caller
 returns-clause-caller c = caller-keeps

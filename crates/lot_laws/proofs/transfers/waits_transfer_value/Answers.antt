@@ -3,11 +3,13 @@ use Rattle.lot_laws.proofs.MutexWait.{leads-gets, others-keep, together-same}
 use Rattle.lot_laws.proofs.transfers.waits_transfer_value.Goals as goal
 
 pub returns-clause-owner : goal.returns-clause-owner
-returns-clause-owner c s e t owner order lends waits may backed = leads-gets s e t owner owner order lends waits may backed ([], refl)
+returns-clause-owner c s e t owner order lends waits may backed =
+    leads-gets s e t owner owner order lends waits may backed ([], refl)
 
 pub returns-clause-alone : goal.returns-clause-alone
 returns-clause-alone c s e t owner order lends waits may backed owns =
-    comes-alone (value_of (step s e).state owner) (value_of s owner) (value_of s t) (leads-gets s e t owner owner order lends waits may backed ([], refl))
+    comes-alone (value_of (step s e).state owner) (value_of s owner) (value_of s t)
+    (leads-gets s e t owner owner order lends waits may backed ([], refl))
     (worth-nothing (funding_of s) (live_of s) s.limits.unit owner order.no_cycle owns.0 owns.1)
 
 pub returns-clause-behind : goal.returns-clause-behind

@@ -5,6 +5,7 @@ use Rattle.lot_mutex.proofs.checks.are_waiting.Given as goal
 
 abbrev pub invariant-loop-place : goal.invariant-loop-place
 invariant-loop-place l = record {
-  wait : (k : ℕ) → k < l.place → status_of l.threads.records (slice_index l.waiters k) ≡ Some (status.Waiting l.mutex.number);
+  wait : (k : ℕ) → k < l.place
+      → status_of l.threads.records (slice_index l.waiters k) ≡ Some (status.Waiting l.mutex.number);
   first : (k : ℕ) → k < l.place → ¬ Contains (take k l.waiters) (slice_index l.waiters k);
 }

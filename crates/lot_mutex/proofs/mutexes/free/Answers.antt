@@ -5,7 +5,9 @@ pub returns-clause-frees : goal.returns-clause-frees
 returns-clause-frees c value d = rw c.requires.nobody (record {
   outcome = refl;
   after = refl;
-  threads = c.apply.ensures.applied ∙ ap (λ (xs : List (Option ℕ)). record c.args.threads.now { owners = xs; stale = c.apply.new.self.stale })
-      (owners-after c.args.queues.now.mutexes c.args.threads.now.owners c.args.mutex (record { owner = None; waiters = [] }) c.requires.owners);
+  threads = c.apply.ensures.applied
+      ∙ ap (λ (xs : List (Option ℕ)). record c.args.threads.now { owners = xs; stale = c.apply.new.self.stale })
+      (owners-after c.args.queues.now.mutexes c.args.threads.now.owners c.args.mutex
+      (record { owner = None; waiters = [] }) c.requires.owners);
   queues = rw (c.set_owner.ensures, c.requires.nobody) refl;
 })

@@ -14,15 +14,20 @@ apply-requires-clause-allowed c =
     let records = ap (λ (x : Threaded). x.records) set in
     let owners = c.requires.owners ∙ sym (ap (λ (x : Threaded). x.owners) set) in
     let other = live-other v c.args.owner c.args.next c.args.mutex c.requires.live c.requires.waits in
-    let live = live-same v.records c.set_status.new.self.records c.args.owner (ap (λ (rs : List Record). status_of rs c.args.owner) records ∙ status-other awake v.records c.args.next c.args.owner other) c.requires.live in
+    let live = live-same v.records c.set_status.new.self.records c.args.owner (ap (λ (rs : List Record).
+    status_of rs c.args.owner) records ∙ status-other awake v.records c.args.next c.args.owner other) c.requires.live in
     let woken =
-    live-status c.set_status.new.self.records c.args.next status.Ready (ap (λ (rs : List Record). status_of rs c.args.next) records ∙ status-now awake v.records c.args.next (status.Waiting c.args.mutex) status.Ready c.requires.waits (λ r. refl)) refl in
-    let owner = ap option_flatten (ap (λ (xs : List (Option ℕ)). at_number xs c.args.mutex) (sym owners) ∙ owner-at mutexes c.args.mutex c.requires.mutex ∙ ap Some c.requires.owner) in
+    live-status c.set_status.new.self.records c.args.next status.Ready
+    (ap (λ (rs : List Record). status_of rs c.args.next) records ∙ status-now awake v.records c.args.next
+    (status.Waiting c.args.mutex) status.Ready c.requires.waits (λ r. refl)) refl in
+    let owner = ap option_flatten (ap (λ (xs : List (Option ℕ)). at_number xs c.args.mutex) (sym owners)
+    ∙ owner-at mutexes c.args.mutex c.requires.mutex ∙ ap Some c.requires.owner) in
     ((owned-there mutexes c.set_status.new.self.owners c.args.mutex c.requires.mutex owners, live-there c.set_status.new.self c.args.next woken, live-apart c.set_status.new.self c.args.next c.args.mutex woken), owner, other, live, woken)
 
 pub returns-clause-threads : goal.returns-clause-threads
 returns-clause-threads c =
-    passed c.args.threads.now c.set_status.new.self c.apply.new.self c.args.mutex c.args.next (change_record awake c.args.threads.now.records c.args.next) c.set_status.ensures.set c.apply.ensures.applied
+    passed c.args.threads.now c.set_status.new.self c.apply.new.self c.args.mutex c.args.next
+    (change_record awake c.args.threads.now.records c.args.next) c.set_status.ensures.set c.apply.ensures.applied
 
 pub returns-clause-queues : goal.returns-clause-queues
 returns-clause-queues c place at =
@@ -35,7 +40,8 @@ returns-clause-kept c node stale = c.apply.ensures.stale.kept node (c.set_status
 
 pub returns-clause-stale : goal.returns-clause-stale
 returns-clause-stale c =
-    passes-stale c.args.threads.now c.set_status.new.self c.apply.new.self c.args.mutex c.args.next (change_record awake c.args.threads.now.records c.args.next) c.set_status.ensures.set c.apply.ensures.applied c.set_status.ensures.stale
+    passes-stale c.args.threads.now c.set_status.new.self c.apply.new.self c.args.mutex c.args.next (change_record awake
+    c.args.threads.now.records c.args.next) c.set_status.ensures.set c.apply.ensures.applied c.set_status.ensures.stale
     c.apply.ensures.stale.reached
 
 pub returns-clause-owners : goal.returns-clause-owners

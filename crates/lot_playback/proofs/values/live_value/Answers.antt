@@ -7,9 +7,11 @@ loop-place-preserved c =
     let s = (world_of c.args.system.now).state in
     let place = c.loop-place.place in
     let own : c.live_value.result ≡ live_part s (place + 1) (value_of s (place + 1)) =
-    c.live_value.ensures.value ∙ ap (λ (x : Seen). live_part (world_of x).state (place + 1) (value_of (world_of x).state (place + 1))) i.system in
+    c.live_value.ensures.value
+    ∙ ap (λ (x : Seen). live_part (world_of x).state (place + 1) (value_of (world_of x).state (place + 1))) i.system in
     record {
       system = c.live_value.ensures.state ∙ i.system;
-      value = ap (λ n. n + c.from-sum.result) i.value ∙ value-more s place (place + 1) c.from-sum.result refl (c.from-sum.ensures ∙ own);
+      value = ap (λ n. n + c.from-sum.result) i.value
+          ∙ value-more s place (place + 1) c.from-sum.result refl (c.from-sum.ensures ∙ own);
       small = omega (arith, i.small, c.live_value.type_inv, c.from-sum.ensures);
     }

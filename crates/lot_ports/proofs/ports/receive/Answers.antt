@@ -3,9 +3,12 @@ use Rattle.lot_ports.proofs.ports.receive.Goals as goal
 
 pub set_status-requires-clause-lend : goal.set_status-requires-clause-lend
 set_status-requires-clause-lend c =
-    may-lend-to (funding_in c.args.threads.now) c.in-Some.call.caller c.args.threads.now.lending.without_lending (ToThread c.args.server.number)
+    may-lend-to (funding_in c.args.threads.now) c.in-Some.call.caller c.args.threads.now.lending.without_lending
+    (ToThread c.args.server.number)
     (lends-to-live c.args.threads.now c.in-Some.call.caller c.args.server.number c.requires.server
-    (λ same. c.requires.nowhere.calls c.args.port.number (subst (λ t. Contains (callers_at c.args.queues.now.ports c.args.port.number) t) (sym same) (caller-first (port_at c.args.queues.now.ports c.args.port.number).calls (queued_call c.in-Some.call) (sym c.take_call.ensures.first ∙ ap (option_map queued_call) c.in-Some.is)))))
+    (λ same. c.requires.nowhere.calls c.args.port.number (subst (λ t. Contains (callers_at c.args.queues.now.ports
+    c.args.port.number) t) (sym same) (caller-first (port_at c.args.queues.now.ports c.args.port.number).calls
+    (queued_call c.in-Some.call) (sym c.take_call.ensures.first ∙ ap (option_map queued_call) c.in-Some.is)))))
 
 pub push_client-requires-clause-server_there : goal.push_client-requires-clause-server_there
 push_client-requires-clause-server_there c =

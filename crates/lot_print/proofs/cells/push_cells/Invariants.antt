@@ -7,7 +7,8 @@ use Rattle.lot_print.proofs.cells.push_cells.Given as goal
 abbrev pub invariant-loop-others : goal.invariant-loop-others
 invariant-loop-others g l = record {
   short : AreShort (map row_of l.others);
-  text : l.line ++ cells_text l.layout (map row_of l.others) l.rest ≡ l.fn.line ++ cells_text l.layout (map row_of l.columns) l.cells;
+  text : l.line ++ cells_text l.layout (map row_of l.others) l.rest ≡ l.fn.line
+      ++ cells_text l.layout (map row_of l.columns) l.cells;
   len : length l.line + cell_room * length l.others ≤ length l.fn.line + cell_room * length l.columns;
 }
 

@@ -7,7 +7,8 @@ use Rattle.lot_print.proofs.cells.push_names.Given as goal
 abbrev pub invariant-loop-others : goal.invariant-loop-others
 invariant-loop-others g l = record {
   short : AreShort (map row_of l.others);
-  text : l.row ++ flat_map (names_text l.several) (map row_of l.others) ≡ l.fn.row ++ flat_map (names_text l.several) (map row_of l.columns);
+  text : l.row ++ flat_map (names_text l.several) (map row_of l.others) ≡ l.fn.row
+      ++ flat_map (names_text l.several) (map row_of l.columns);
   len : length l.row + 3 * cell_room * length l.others ≤ length l.fn.row + 3 * cell_room * length l.columns;
 }
 

@@ -8,7 +8,8 @@ use Rattle.lot_print.proofs.figures.push_spreads.Given as goal
 abbrev pub invariant-loop-others : goal.invariant-loop-others
 invariant-loop-others g l = record {
   short : AreShort (map row_of l.others);
-  text : l.text ++ spreads_text l.line l.plays (map row_of l.others) l.rest ≡ l.fn.text ++ spreads_text l.line l.plays (map row_of l.columns) l.spreads;
+  text : l.text ++ spreads_text l.line l.plays (map row_of l.others) l.rest ≡ l.fn.text
+      ++ spreads_text l.line l.plays (map row_of l.columns) l.spreads;
   len : length l.text + 3 * cell_room * length l.others ≤ length l.fn.text + 3 * cell_room * length l.columns;
 }
 

@@ -5,7 +5,8 @@ use Rattle.lot_print.proofs.figures.tells_all.Given as goal
 
 -- the columns that are left decide
 abbrev pub invariant-loop-others : goal.invariant-loop-others
-invariant-loop-others l = tells_all l.line (map row_of l.others) l.rest ≡ tells_all l.line (map row_of l.columns) l.spreads
+invariant-loop-others l =
+    tells_all l.line (map row_of l.others) l.rest ≡ tells_all l.line (map row_of l.columns) l.spreads
 
 abbrev pub decreases-loop-others : goal.decreases-loop-others
 decreases-loop-others l = length l.others

@@ -13,13 +13,17 @@ returns-in_err-write_to g c =
     rw is (
       told.0,
       told.1,
-      begins-front (g.W.Write.contents c.args.writer.now.inner) (g.W.Write.contents c.write_to.new.writer.inner) (first_line c.args.subject c.args.number figures)
-          (flat_map (further_line c.args.subject c.args.number figures) (range_with_len 1 (further_lines c.args.subject))) told.2,
+      begins-front (g.W.Write.contents c.args.writer.now.inner) (g.W.Write.contents c.write_to.new.writer.inner)
+          (first_line c.args.subject c.args.number figures)
+          (flat_map (further_line c.args.subject c.args.number figures)
+          (range_with_len 1 (further_lines c.args.subject))) told.2,
     )
 
 pub returns : goal.returns
 returns g c =
     let figures = c.args.figures.now in
     let told = rw c.first_line.ensures at c.in_ok-write_to.ensures in
-    writes-after (g.W.Write.contents c.args.writer.now.inner) (g.W.Write.contents c.write_to.new.writer.inner) (g.W.Write.contents c.write_further.new.writer.inner) c.write_further.new.writer.failed c.write_further.result
-    (first_line c.args.subject c.args.number figures) (flat_map (further_line c.args.subject c.args.number figures) (range_with_len 1 (further_lines c.args.subject))) told.1 c.write_further.ensures
+    writes-after (g.W.Write.contents c.args.writer.now.inner) (g.W.Write.contents c.write_to.new.writer.inner)
+    (g.W.Write.contents c.write_further.new.writer.inner) c.write_further.new.writer.failed c.write_further.result
+    (first_line c.args.subject c.args.number figures) (flat_map (further_line c.args.subject c.args.number figures)
+    (range_with_len 1 (further_lines c.args.subject))) told.1 c.write_further.ensures

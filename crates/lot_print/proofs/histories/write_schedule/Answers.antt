@@ -12,7 +12,9 @@ returns-in_err-write_schedule_line g c =
     rw is (
       told.0,
       told.1,
-      parts-stop (g.W.Write.contents c.args.writer.now.inner) (g.W.Write.contents c.loop-rest.writer.inner) (g.W.Write.contents c.write_schedule_line.new.writer.inner) i.bytes.0 (schedule_line (take n xs)) (schedule_lines (drop n xs)) (schedule_lines xs) (schedule_lines c.args.history.now) i.bytes.1
+      parts-stop (g.W.Write.contents c.args.writer.now.inner) (g.W.Write.contents c.loop-rest.writer.inner)
+          (g.W.Write.contents c.write_schedule_line.new.writer.inner) i.bytes.0 (schedule_line (take n xs))
+          (schedule_lines (drop n xs)) (schedule_lines xs) (schedule_lines c.args.history.now) i.bytes.1
           (schedule_lines-first n xs (drop n xs) some c.min-len.ensures refl) i.bytes.2 told.2,
     )
 
@@ -26,6 +28,8 @@ loop-rest-preserved g c =
     let some : 0 < length xs = omega (arith, eqb-false _ 0 (sym c.is_empty.ensures ∙ c.loop-rest-test.true)) in
     record {
       working = told.0;
-      bytes = parts-more (g.W.Write.contents c.args.writer.now.inner) (g.W.Write.contents c.loop-rest.writer.inner) (g.W.Write.contents c.write_schedule_line.new.writer.inner) i.bytes.0 (schedule_line (take n xs)) (schedule_lines more) (schedule_lines xs) (schedule_lines c.args.history.now) i.bytes.1
+      bytes = parts-more (g.W.Write.contents c.args.writer.now.inner) (g.W.Write.contents c.loop-rest.writer.inner)
+          (g.W.Write.contents c.write_schedule_line.new.writer.inner) i.bytes.0 (schedule_line (take n xs))
+          (schedule_lines more) (schedule_lines xs) (schedule_lines c.args.history.now) i.bytes.1
           (schedule_lines-first n xs more some c.min-len.ensures (take_rest xs n)) i.bytes.2 told.1;
     }

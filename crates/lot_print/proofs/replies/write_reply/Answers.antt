@@ -8,5 +8,7 @@ returns-in_err-make_room g c =
     rw is (
       told.0,
       told.1,
-      put-stop (g.W.Write.contents c.args.writer.now.inner) (g.W.Write.contents c.make_room.new.writer.inner) c.args.page.now (front c.args.heading.style ++ (decimal c.args.heading.actor ++ (codes " " ++ plain_text c.args.heading.style c.args.heading.unit c.args.event.now c.args.reply.now))) told.2,
+      put-stop (g.W.Write.contents c.args.writer.now.inner) (g.W.Write.contents c.make_room.new.writer.inner)
+          c.args.page.now (front c.args.heading.style ++ (decimal c.args.heading.actor ++ (codes " "
+          ++ plain_text c.args.heading.style c.args.heading.unit c.args.event.now c.args.reply.now))) told.2,
     )

@@ -8,7 +8,9 @@ shorter_than after (suc rest) all most shorter part some = omega (arith, shorter
 
 pub loop-pair-preserved : goal.loop-pair-preserved
 loop-pair-preserved c = record {
-  runs = c.after_run-rest.ensures.runs ∙ ap (λ (runs : List ActorRun). drop 1 runs) c.loop-pair.invariant.runs ∙ drop-drop 1 c.loop-pair._pair (runs_in c.args.history.now);
+  runs = c.after_run-rest.ensures.runs ∙ ap (λ (runs : List ActorRun). drop 1 runs) c.loop-pair.invariant.runs
+      ∙ drop-drop 1 c.loop-pair._pair (runs_in c.args.history.now);
   most = omega (arith, c.loop-pair.invariant.most, c.after_run-rest.ensures.most);
-  shorter = λ _ some. shorter_than _ _ _ c.after_run-rest.ensures.most c.after_run-rest.ensures.shorter c.loop-pair.invariant.most some;
+  shorter = λ _ some.
+      shorter_than _ _ _ c.after_run-rest.ensures.most c.after_run-rest.ensures.shorter c.loop-pair.invariant.most some;
 }

@@ -13,7 +13,9 @@ returns-in_err-write_runs_line g c =
     rw is (
       told.0,
       told.1,
-      parts-stop (g.W.Write.contents c.args.writer.now.inner) (g.W.Write.contents c.loop-rest.writer.inner) (g.W.Write.contents c.write_runs_line.new.writer.inner) i.bytes.0 (runs_line (take 32 (runs_in xs))) (runs_lines more) (runs_lines xs) (runs_lines c.args.history.now) i.bytes.1 following i.bytes.2 told.2,
+      parts-stop (g.W.Write.contents c.args.writer.now.inner) (g.W.Write.contents c.loop-rest.writer.inner)
+          (g.W.Write.contents c.write_runs_line.new.writer.inner) i.bytes.0 (runs_line (take 32 (runs_in xs)))
+          (runs_lines more) (runs_lines xs) (runs_lines c.args.history.now) i.bytes.1 following i.bytes.2 told.2,
     )
 
 pub loop-rest-preserved : goal.loop-rest-preserved
@@ -25,6 +27,8 @@ loop-rest-preserved g c =
     let some : 0 < length xs = omega (arith, eqb-false _ 0 (sym c.is_empty.ensures ∙ c.loop-rest-test.true)) in
     record {
       working = told.0;
-      bytes = parts-more (g.W.Write.contents c.args.writer.now.inner) (g.W.Write.contents c.loop-rest.writer.inner) (g.W.Write.contents c.write_runs_line.new.writer.inner) i.bytes.0 (runs_line (take 32 (runs_in xs))) (runs_lines more) (runs_lines xs) (runs_lines c.args.history.now)
+      bytes = parts-more (g.W.Write.contents c.args.writer.now.inner) (g.W.Write.contents c.loop-rest.writer.inner)
+          (g.W.Write.contents c.write_runs_line.new.writer.inner) i.bytes.0 (runs_line (take 32 (runs_in xs)))
+          (runs_lines more) (runs_lines xs) (runs_lines c.args.history.now)
           i.bytes.1 (runs_lines-first xs more (runs_in-some xs some) c.after_line-others.ensures.runs) i.bytes.2 told.1;
     }

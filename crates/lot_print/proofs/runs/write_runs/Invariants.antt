@@ -5,7 +5,8 @@ use Rattle.lot_print.proofs.runs.write_runs.Given as goal
 abbrev pub invariant-loop-rest : goal.invariant-loop-rest
 invariant-loop-rest g l = record {
   working : l.writer.failed ≡ false;
-  bytes : (done : List ℕ) × (done ++ runs_lines l.rest ≡ runs_lines l.history) × Appends (g.W.Write.contents l.initial.writer.inner) (g.W.Write.contents l.writer.inner) done;
+  bytes : (done : List ℕ) × (done ++ runs_lines l.rest ≡ runs_lines l.history)
+      × Appends (g.W.Write.contents l.initial.writer.inner) (g.W.Write.contents l.writer.inner) done;
 }
 
 abbrev pub decreases-loop-rest : goal.decreases-loop-rest

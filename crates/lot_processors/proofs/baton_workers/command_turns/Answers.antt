@@ -11,6 +11,8 @@ returns-in_err-turn-clause-err g c =
     let made = c.loop-turn.invariant.1 in
     let p = err_from_is_err_and c.from_residual.result c.from_residual.ensures.1 in
     rw (p.1, p.2)
-    (stopped program (c.loop-turn._turn + 0) _ _ c.args.seat.now after (omega (arith, c.loop-turn-test.true, ap length c.commands.ensures.commands))
+    (stopped program (c.loop-turn._turn + 0) _ _ c.args.seat.now after
+    (omega (arith, c.loop-turn-test.true, ap length c.commands.ensures.commands))
     (made_then c.loop-turn._turn 0 c.args.seat.now before after made (looked before after told.same told.err.0))
-    (refused_console program before after _ (made.continues.actor ∙ c.requires.console) told.same told.err.0 told.err.1))
+    (refused_console program before after _
+    (made.continues.actor ∙ c.requires.console) told.same told.err.0 told.err.1))

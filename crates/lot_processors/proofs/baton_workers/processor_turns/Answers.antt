@@ -18,8 +18,10 @@ returns-in_err-work-clause-err g c =
     let told = c.in_err-work.ensures in
     let p = err_from_is_err_and c.from_residual.result c.from_residual.ensures.1 in
     rw (p.1, p.2)
-    (stopped program (0 + (c.loop-made.made + 0)) _ _ c.args.seat.now after (omega (arith, c.loop-made-test.true, c.turns-made-end.ensures.turns))
-    (made_then 0 (c.loop-made.made + 0) c.args.seat.now first after (looked c.args.seat.now first c.work-work.ensures.same c.work-work.ensures.seen)
+    (stopped program (0 + (c.loop-made.made + 0)) _ _ c.args.seat.now after
+    (omega (arith, c.loop-made-test.true, c.turns-made-end.ensures.turns))
+    (made_then 0 (c.loop-made.made + 0) c.args.seat.now first after
+    (looked c.args.seat.now first c.work-work.ensures.same c.work-work.ensures.seen)
     (made_then c.loop-made.made 0 first before after c.loop-made.invariant.1 told.err.0)) told.err.1)
 
 pub loop-made-preserved : goal.loop-made-preserved
@@ -31,6 +33,8 @@ loop-made-preserved g c =
 pub returns-clause-ok : goal.returns-clause-ok
 returns-clause-ok g c =
     let first = c.work-work.new.seat in
-    let all : 0 + c.loop-made.made ≡ c.args.program.now.turns = omega (arith, c.loop-made-test.false, c.loop-made.auto.made-end, c.turns-made-end.ensures.turns) in
+    let all : 0 + c.loop-made.made ≡ c.args.program.now.turns =
+    omega (arith, c.loop-made-test.false, c.loop-made.auto.made-end, c.turns-made-end.ensures.turns) in
     subst (λ n. HasMade n c.args.seat.now c.loop-made.seat) all
-    (made_then 0 c.loop-made.made c.args.seat.now first c.loop-made.seat (looked c.args.seat.now first c.work-work.ensures.same c.work-work.ensures.seen) c.loop-made.invariant.1)
+    (made_then 0 c.loop-made.made c.args.seat.now first c.loop-made.seat
+    (looked c.args.seat.now first c.work-work.ensures.same c.work-work.ensures.seen) c.loop-made.invariant.1)

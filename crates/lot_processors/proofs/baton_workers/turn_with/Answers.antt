@@ -16,7 +16,8 @@ returns-in-Ok-clause-made g c =
     let before = c.loop.seat in
     let after = c.turn.new.seat in
     let told = c.in-Ok.ensures in
-    made_then 0 1 c.args.seat.now before after c.loop.invariant.1 (turned before after _ c.in-Ok.answer told.same told.ok)
+    made_then 0 1 c.args.seat.now before after c.loop.invariant.1
+    (turned before after _ c.in-Ok.answer told.same told.ok)
 
 pub returns-in_err-work-in-Err-clause-err : goal.returns-in_err-work-in-Err-clause-err
 returns-in_err-work-in-Err-clause-err g c =
@@ -26,11 +27,14 @@ returns-in_err-work-in-Err-clause-err g c =
     let after = c.turn.new.seat in
     let told = c.in-Err.ensures in
     let later = c.in_err-work-in-Err.ensures in
-    let slice = subst (λ (work : Option Work). Matches program work c.in_ok-slice.slice) c.copy_of.ensures c.in_ok-slice.ensures.ok in
-    let p = err_from_is_err_and c.from_residual-in_err-work-in-Err.result c.from_residual-in_err-work-in-Err.ensures.1 in
+    let slice = subst
+    (λ (work : Option Work). Matches program work c.in_ok-slice.slice) c.copy_of.ensures c.in_ok-slice.ensures.ok in
+    let p =
+    err_from_is_err_and c.from_residual-in_err-work-in-Err.result c.from_residual-in_err-work-in-Err.ensures.1 in
     rw (p.1, p.2, later.fault) (
       made_then 0 0 c.args.seat.now before after i.1 (looked before after told.same told.err.0),
-      refused program before after c.loop.work _ c.in-Err.fault i.4 slice told.same told.err.0 told.err.1 (subst (IsLastWork c.loop.work) later.fault later.last),
+      refused program before after c.loop.work _ c.in-Err.fault i.4 slice told.same told.err.0 told.err.1
+          (subst (IsLastWork c.loop.work) later.fault later.last),
     )
 
 pub loop-preserved : goal.loop-preserved
@@ -39,7 +43,8 @@ loop-preserved g c =
     let before = c.loop.seat in
     let after = c.turn.new.seat in
     let told = c.in-Err.ensures in
-    let had = later-had after.seen before.actor _ c.in-Err.fault c.in_ok-work-in-Err.work c.in_ok-work-in-Err.ensures.later told.err.1 in (
+    let had = later-had after.seen before.actor _ c.in-Err.fault c.in_ok-work-in-Err.work
+    c.in_ok-work-in-Err.ensures.later told.err.1 in (
       told.same.stopped ∙ i.0,
       made_then 0 0 c.args.seat.now before after i.1 (looked before after told.same told.err.0),
       told.same.station ∙ i.2,

@@ -21,5 +21,6 @@ returns-in_err-turn-clause-err g c =
     let told = c.in_err-turn.ensures in
     let p = err_from_is_err_and c.from_residual.result c.from_residual.ensures.1 in
     rw (p.1, p.2)
-    (stopped setting program c.loop-turn._turn _ _ c.args.seat.now before c.turn.new.seat (omega (arith, c.loop-turn-test.true, ap length c.commands.ensures.commands)) made told.err
+    (stopped setting program c.loop-turn._turn _ _ c.args.seat.now before c.turn.new.seat
+    (omega (arith, c.loop-turn-test.true, ap length c.commands.ensures.commands)) made told.err
     (refused_console setting program before.actor _ (made.actor ∙ c.requires) told.fault))

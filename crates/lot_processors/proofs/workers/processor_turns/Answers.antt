@@ -29,4 +29,5 @@ returns-in_err-work-clause-err g c =
     let told = c.in_err-work.ensures in
     let p = err_from_is_err_and c.from_residual.result c.from_residual.ensures.1 in
     rw (p.1, p.2)
-    (stopped setting program c.loop-made.made _ _ c.args.seat.now before c.turn_with.new.seat (omega (arith, c.loop-made-test.true, c.turns-made-end.ensures.turns)) i.1 told.err.0 told.err.1)
+    (stopped setting program c.loop-made.made _ _ c.args.seat.now before c.turn_with.new.seat
+    (omega (arith, c.loop-made-test.true, c.turns-made-end.ensures.turns)) i.1 told.err.0 told.err.1)

@@ -6,13 +6,19 @@ use Rattle.lot_processors.proofs.workers.run_all.Goals as goal
 
 pub returns-in-None-clause-ok : goal.returns-in-None-clause-ok
 returns-in-None-clause-ok g c =
-    let each : EachSeat c.args.seats.now c.for_each_mut.new.s (λ k s t. HasWorked c.args.station.now c.args.program.now s t) = λ k d low.
-    let x = (c.for_each_mut.ensures k d low).1 in subst (λ (y : Holder × Holder). HasWorked c.args.station.now c.args.program.now y.0 y.1) (λ i. (x.argument_is i, x.left i)) x.call in
+    let each : EachSeat c.args.seats.now c.for_each_mut.new.s (λ k s t.
+    HasWorked c.args.station.now c.args.program.now s t) = λ k d low.
+    let x = (c.for_each_mut.ensures k d low).1 in subst (λ (y : Holder × Holder).
+    HasWorked c.args.station.now c.args.program.now y.0 y.1) (λ i. (x.argument_is i, x.left i)) x.call in
     let none = c.in-None.ensures.none refl in
-    all_made c.args.station.now c.args.program.now c.args.seats.now c.for_each_mut.new.s c.first_fault.new.seats each none.0 (λ k d low. none.1 k d (omega (arith, low, c.for_each_mut.auto.s)))
+    all_made c.args.station.now c.args.program.now c.args.seats.now c.for_each_mut.new.s c.first_fault.new.seats each
+    none.0 (λ k d low. none.1 k d (omega (arith, low, c.for_each_mut.auto.s)))
 
 pub returns-in-Some-clause-err : goal.returns-in-Some-clause-err
 returns-in-Some-clause-err g c =
-    let each : EachSeat c.args.seats.now c.for_each_mut.new.s (λ k s t. HasWorked c.args.station.now c.args.program.now s t) = λ k d low.
-    let x = (c.for_each_mut.ensures k d low).1 in subst (λ (y : Holder × Holder). HasWorked c.args.station.now c.args.program.now y.0 y.1) (λ i. (x.argument_is i, x.left i)) x.call in
-    first_stops c.args.station.now c.args.program.now c.args.seats.now c.for_each_mut.new.s c.first_fault.new.seats each c.in-Some.fault c.in-Some.ensures.some c.for_each_mut.auto.s
+    let each : EachSeat c.args.seats.now c.for_each_mut.new.s (λ k s t.
+    HasWorked c.args.station.now c.args.program.now s t) = λ k d low.
+    let x = (c.for_each_mut.ensures k d low).1 in subst (λ (y : Holder × Holder).
+    HasWorked c.args.station.now c.args.program.now y.0 y.1) (λ i. (x.argument_is i, x.left i)) x.call in
+    first_stops c.args.station.now c.args.program.now c.args.seats.now c.for_each_mut.new.s c.first_fault.new.seats each
+    c.in-Some.fault c.in-Some.ensures.some c.for_each_mut.auto.s

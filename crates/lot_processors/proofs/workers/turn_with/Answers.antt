@@ -13,7 +13,8 @@ returns-in_err-slice-clause-err g c =
     let setting = c.args.station.now in
     let program = c.args.program.now in
     let i = c.loop.invariant in
-    let had = subst (λ (work : Option Work). AtSome setting (λ x. IsWorkOf x c.loop.seat.actor work)) (sym c.copy_of.ensures) i.1 in
+    let had = subst (λ (work : Option Work). AtSome setting (λ x. IsWorkOf x c.loop.seat.actor work))
+    (sym c.copy_of.ensures) i.1 in
     let p = err_from_is_err_and c.from_residual.result c.from_residual.ensures.1 in
     rw (p.1, p.2)
     (i.0, subst (λ (h : Holder). StopsTurn setting program h.actor c.in_err-slice.field-0.0) i.0 (unfit setting program c.loop.seat.actor _ c.copy_of.result had c.in_err-slice.ensures.err))
@@ -28,7 +29,8 @@ returns-in-Ok-clause-made g c =
 
 pub returns-in-Ok-clause-next : goal.returns-in-Ok-clause-next
 returns-in-Ok-clause-next g c =
-    subst (λ (h : Holder). AtSome c.args.station.now (λ x. IsWorkOf x h.actor c.in-Ok.answer.next)) c.loop.invariant.0 c.in-Ok.ensures.next
+    subst (λ (h : Holder). AtSome c.args.station.now (λ x. IsWorkOf x h.actor c.in-Ok.answer.next)) c.loop.invariant.0
+    c.in-Ok.ensures.next
 
 pub returns-in_err-work-in-Err-clause-err : goal.returns-in_err-work-in-Err-clause-err
 returns-in_err-work-in-Err-clause-err g c =
@@ -37,8 +39,10 @@ returns-in_err-work-in-Err-clause-err g c =
     let i = c.loop.invariant in
     let told = c.in-Err.ensures in
     let later = c.in_err-work-in-Err.ensures in
-    let slice = subst (λ (work : Option Work). Matches program work c.in_ok-slice.slice) c.copy_of.ensures c.in_ok-slice.ensures.ok in
-    let p = err_from_is_err_and c.from_residual-in_err-work-in-Err.result c.from_residual-in_err-work-in-Err.ensures.1 in
+    let slice = subst
+    (λ (work : Option Work). Matches program work c.in_ok-slice.slice) c.copy_of.ensures c.in_ok-slice.ensures.ok in
+    let p =
+    err_from_is_err_and c.from_residual-in_err-work-in-Err.result c.from_residual-in_err-work-in-Err.ensures.1 in
     rw (p.1, p.2, later.fault)
     (told.err ∙ i.0, subst (λ (h : Holder). StopsTurn setting program h.actor c.in-Err.fault) i.0 (refused setting program c.loop.seat.actor c.in-Err.fault c.loop.work _ i.1 slice told.fault (subst (IsLastWork c.loop.work) later.fault later.last)))
 

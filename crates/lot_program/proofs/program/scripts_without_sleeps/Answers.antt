@@ -5,7 +5,8 @@ pub returns-in_err-copies : goal.returns-in_err-copies
 returns-in_err-copies c = IfOk-from_err c.from_residual.result _ c.from_residual.ensures.0
 
 pub returns-in_err-without_sleeps : goal.returns-in_err-without_sleeps
-returns-in_err-without_sleeps c = IfOk-from_err c.from_residual-in_err-without_sleeps.result _ c.from_residual-in_err-without_sleeps.ensures.0
+returns-in_err-without_sleeps c =
+    IfOk-from_err c.from_residual-in_err-without_sleeps.result _ c.from_residual-in_err-without_sleeps.ensures.0
 
 pub returns-in_err-push : goal.returns-in_err-push
 returns-in_err-push c = IfOk-from_err c.from_residual-in_err-push.result _ c.from_residual-in_err-push.ensures.0
@@ -19,4 +20,5 @@ loop-script-preserved c =
     (sym (map-append (map without_sleep) (take i scripts) (script ∷ [])))
 
 pub returns : goal.returns
-returns c = c.loop-script.invariant ∙ ap (map (map without_sleep)) (take_all c.loop-script.script-index c.args.scripts.now (omega arith))
+returns c = c.loop-script.invariant
+    ∙ ap (map (map without_sleep)) (take_all c.loop-script.script-index c.args.scripts.now (omega arith))

@@ -15,10 +15,12 @@ loop-preserved c =
     let items = c.in_ok-push.ensures.items in
     record {
       range = range;
-      from = ap (λ xs. xs ++ seeds_from left after) items ∙ append_assoc c.loop.seeds.items (seed ∷ []) (seeds_from left after) ∙ ap (λ x. c.loop.seeds.items ++ seed ∷ seeds_from left x) same
+      from = ap (λ xs. xs ++ seeds_from left after) items ∙ append_assoc c.loop.seeds.items (seed ∷ [])
+          (seeds_from left after) ∙ ap (λ x. c.loop.seeds.items ++ seed ∷ seeds_from left x) same
           ∙ ap (λ k. c.loop.seeds.items ++ seeds_from k seed) (sym more) ∙ i.from;
       each = record {
         count = ap length items ∙ length-append c.loop.seeds.items (seed ∷ []) ∙ ap (λ k. k + 1) i.each.count;
-        each = subst (λ (xs : List ℕ). All IsSeed xs) (sym items) (All-append IsSeed c.loop.seeds.items (seed ∷ []) i.each.each (All-replicate IsSeed 1 seed i.range));
+        each = subst (λ (xs : List ℕ). All IsSeed xs) (sym items)
+            (All-append IsSeed c.loop.seeds.items (seed ∷ []) i.each.each (All-replicate IsSeed 1 seed i.range));
       };
     }

@@ -2,7 +2,8 @@ use Rattle.lot_simulation.proofs.Lemmas.{ActorTurn, List, Program, Reply, idles-
 use Rattle.lot_simulation.proofs.laws.timed_processors_add_up.Goals as goal
 
 abbrev AddsUp : Program → (Reply → ℕ) → List ActorTurn → Type 0
-AddsUp program count turns = sum_by (λ p. total_of count (turns_of p turns)) (range_with_len 1 program.limits.processors) ≡ total_of count turns
+AddsUp program count turns =
+    sum_by (λ p. total_of count (turns_of p turns)) (range_with_len 1 program.limits.processors) ≡ total_of count turns
 
 pub returns-clause-quanta : goal.returns-clause-quanta
 returns-clause-quanta c program each =

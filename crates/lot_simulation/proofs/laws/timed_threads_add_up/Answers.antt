@@ -6,12 +6,14 @@ short program = omega (arith, length-map (timed_turns program) (λ (done : Timed
 
 pub returns-clause-quanta : goal.returns-clause-quanta
 returns-clause-quanta c program bounds once =
-    ap (λ (w : World). sum_by (λ (r : Record). r.quanta) w.state.records) (timed-world program) ∙ quanta-add_up program (timed_schedule program) bounds (short program) once
+    ap (λ (w : World). sum_by (λ (r : Record). r.quanta) w.state.records) (timed-world program)
+    ∙ quanta-add_up program (timed_schedule program) bounds (short program) once
     ∙ sym (ap (total_of quanta_in) (timed-made program))
 
 pub returns-clause-ticks : goal.returns-clause-ticks
 returns-clause-ticks c program bounds once =
-    ap (λ (w : World). sum_by (λ (r : Record). r.ticks) w.state.records) (timed-world program) ∙ ticks-add_up program (timed_schedule program) bounds (short program) once
+    ap (λ (w : World). sum_by (λ (r : Record). r.ticks) w.state.records) (timed-world program)
+    ∙ ticks-add_up program (timed_schedule program) bounds (short program) once
     ∙ sym (ap (total_of ticks_in) (timed-made program))
 
 pub returns-clause-quanta_within : goal.returns-clause-quanta_within

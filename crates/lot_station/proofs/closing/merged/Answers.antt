@@ -9,7 +9,8 @@ loop-seat-init g c =
     let turns = c.into_share-all_turns.ensures in
     let quanta = c.into_share-all_quanta.ensures in
     let ticks = c.into_share-all_ticks.ensures in
-    let all = head_first c.args.seats.items first c.requires c.remove.ensures.value ∙ ap (λ l. first ∷ l) (sym (gives.0 ∙ c.remove.ensures.items)) in
+    let all = head_first c.args.seats.items first c.requires c.remove.ensures.value
+    ∙ ap (λ l. first ∷ l) (sym (gives.0 ∙ c.remove.ensures.items)) in
     let is = c.turns.view_is in (
       tt,
       tt,
@@ -17,7 +18,8 @@ loop-seat-init g c =
       (
         first ∷ [],
         all,
-        has_one _ _ _ _ _ _ first turns.parts quanta.parts ticks.parts (turns.amount ∙ ap (λ (h : Holder). h.turns) is) (quanta.amount ∙ ap (λ (h : Holder). h.quanta) is) (ticks.amount ∙ ap (λ (h : Holder). h.ticks) is),
+        has_one _ _ _ _ _ _ first turns.parts quanta.parts ticks.parts (turns.amount ∙ ap (λ (h : Holder). h.turns) is)
+            (quanta.amount ∙ ap (λ (h : Holder). h.quanta) is) (ticks.amount ∙ ap (λ (h : Holder). h.ticks) is),
       ),
     )
 
@@ -31,14 +33,16 @@ loop-seat-preserved g c =
     let turns = c.into_share.ensures in
     let quanta = c.into_share-in-loop-seat.ensures in
     let ticks = c.into_share-in-loop-seat-2.ensures in
-    let one = has_one _ _ _ _ _ _ seat turns.parts quanta.parts ticks.parts (turns.amount ∙ ap (λ (h : Holder). h.turns) is) (quanta.amount ∙ ap (λ (h : Holder). h.quanta) is) (ticks.amount ∙ ap (λ (h : Holder). h.ticks) is) in (
+    let one = has_one _ _ _ _ _ _ seat turns.parts quanta.parts ticks.parts (turns.amount ∙ ap (λ (h : Holder). h.turns)
+    is) (quanta.amount ∙ ap (λ (h : Holder). h.quanta) is) (ticks.amount ∙ ap (λ (h : Holder). h.ticks) is) in (
       tt,
       tt,
       omega (arith, i.2, step.1, ap length step.0),
       (
         done ++ seat ∷ [],
         moves_on _ done _ _ seat i.3.1 step.0,
-        has_more _ _ _ _ _ _ _ _ _ _ _ _ _ _ _ _ _ _ done seat i.3.2 one c.merge.ensures.parts c.merge-in-loop-seat.ensures.parts c.merge-in-loop-seat-2.ensures.parts c.merge.ensures.amount
+        has_more _ _ _ _ _ _ _ _ _ _ _ _ _ _ _ _ _ _ done seat i.3.2 one c.merge.ensures.parts
+            c.merge-in-loop-seat.ensures.parts c.merge-in-loop-seat-2.ensures.parts c.merge.ensures.amount
             c.merge-in-loop-seat.ensures.amount c.merge-in-loop-seat-2.ensures.amount,
       ),
     )

@@ -7,4 +7,5 @@ invariant-loop-seat g l =
     × (l.seat-iterator.rest.len ≡ length l.seat-iterator.rest.items)
     × ((done : List Holder)
     × (l.fn.seats.items ≡ done ++ l.seat-iterator.rest.items)
-    × Has l.all_turns.parts l.all_quanta.parts l.all_ticks.parts l.all_turns.amount l.all_quanta.amount l.all_ticks.amount done)
+    × Has l.all_turns.parts l.all_quanta.parts l.all_ticks.parts l.all_turns.amount l.all_quanta.amount
+    l.all_ticks.amount done)

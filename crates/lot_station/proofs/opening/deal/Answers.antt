@@ -18,17 +18,20 @@ loop-k-init g c =
 pub split_off-requires : goal.split_off-requires
 split_off-requires g c =
     let x = c.args.system.now in
-    left-enough (times_in x) c.loop-k.k _ _ _ _ c.loop-k.invariant.3 c.loop-k-test.true (ap (λ (k : Counts). k.turns) c.counts-had.ensures ∙ length-turns_of x c.loop-k.k)
+    left-enough (times_in x) c.loop-k.k _ _ _ _ c.loop-k.invariant.3 c.loop-k-test.true
+    (ap (λ (k : Counts). k.turns) c.counts-had.ensures ∙ length-turns_of x c.loop-k.k)
 
 pub split_off-requires-in-loop-k : goal.split_off-requires-in-loop-k
 split_off-requires-in-loop-k g c =
     let x = c.args.system.now in
-    left-enough (λ actor. total_of quanta_in (turns_of actor (turns_in x))) c.loop-k.k _ _ _ _ c.loop-k.invariant.4 c.loop-k-test.true (ap (λ (k : Counts). k.quanta) c.counts-had.ensures)
+    left-enough (λ actor. total_of quanta_in (turns_of actor (turns_in x))) c.loop-k.k _ _ _ _ c.loop-k.invariant.4
+    c.loop-k-test.true (ap (λ (k : Counts). k.quanta) c.counts-had.ensures)
 
 pub split_off-requires-in-loop-k-2 : goal.split_off-requires-in-loop-k-2
 split_off-requires-in-loop-k-2 g c =
     let x = c.args.system.now in
-    left-enough (λ actor. total_of ticks_in (turns_of actor (turns_in x))) c.loop-k.k _ _ _ _ c.loop-k.invariant.5 c.loop-k-test.true (ap (λ (k : Counts). k.ticks) c.counts-had.ensures)
+    left-enough (λ actor. total_of ticks_in (turns_of actor (turns_in x))) c.loop-k.k _ _ _ _ c.loop-k.invariant.5
+    c.loop-k-test.true (ap (λ (k : Counts). k.ticks) c.counts-had.ensures)
 
 pub loop-k-preserved : goal.loop-k-preserved
 loop-k-preserved g c =
@@ -41,10 +44,13 @@ loop-k-preserved g c =
     let quanta = ap (λ (n : Counts). n.quanta) c.counts-had.ensures in
     let ticks = ap (λ (n : Counts). n.ticks) c.counts-had.ensures in
     let is = dealt_one x c.loop-k.k _ _ _ (t.amount ∙ turns) (q.amount ∙ quanta) (k.amount ∙ ticks) in (
-      deals_one x c.loop-k.seats.items c.push_reserved.new.self.items c.loop-k.k _ i.0 (search rules) is c.push_reserved.ensures.items,
+      deals_one x c.loop-k.seats.items c.push_reserved.new.self.items c.loop-k.k _ i.0
+          (search rules) is c.push_reserved.ensures.items,
       search rules,
       search rules,
       left-next (times_in x) c.loop-k.k _ _ _ _ _ _ i.3 turns t.parts_left t.amount_left,
-      left-next (λ actor. total_of quanta_in (turns_of actor (turns_in x))) c.loop-k.k _ _ _ _ _ _ i.4 quanta q.parts_left q.amount_left,
-      left-next (λ actor. total_of ticks_in (turns_of actor (turns_in x))) c.loop-k.k _ _ _ _ _ _ i.5 ticks k.parts_left k.amount_left,
+      left-next (λ actor. total_of quanta_in (turns_of actor (turns_in x))) c.loop-k.k _ _ _ _ _ _ i.4 quanta
+          q.parts_left q.amount_left,
+      left-next (λ actor. total_of ticks_in (turns_of actor (turns_in x))) c.loop-k.k _ _ _ _ _ _ i.5 ticks k.parts_left
+          k.amount_left,
     )

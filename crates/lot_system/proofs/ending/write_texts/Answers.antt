@@ -2,7 +2,8 @@
 use Rattle.lot_system.proofs.Common.{Err, List, Seen, Written, ap, begins-front, history_lines, report, rules, shown_history, subst, unit_of, writes-after, ℕ, ◌∙◌, ◌≡◌}
 use Rattle.lot_system.proofs.ending.write_texts.Goals as goal
 
-lines-are : (s now : Seen) (unit : ℕ) (history lines : List ℕ) → now ≡ s → unit ≡ now.setting.program.limits.unit → history ≡ lines → history_lines unit history ≡ history_lines s.setting.program.limits.unit lines
+lines-are : (s now : Seen) (unit : ℕ) (history lines : List ℕ) → now ≡ s → unit ≡ now.setting.program.limits.unit
+    → history ≡ lines → history_lines unit history ≡ history_lines s.setting.program.limits.unit lines
 lines-are s now unit history lines same of_unit of_history =
     ap (λ u. history_lines u history) (of_unit ∙ ap (λ (x : Seen). x.setting.program.limits.unit) same)
     ∙ ap (λ (xs : List ℕ). history_lines s.setting.program.limits.unit xs) of_history
@@ -15,7 +16,8 @@ returns-in_err-write_report-clause-shown g c =
     rw is (
       told.0,
       told.1,
-      begins-front (g.W.Write.contents c.args.writer.now.inner) (g.W.Write.contents c.write_report.new.writer.inner) (report s.setting.program s.history) (history_lines s.setting.program.limits.unit (shown_history s)) told.2,
+      begins-front (g.W.Write.contents c.args.writer.now.inner) (g.W.Write.contents c.write_report.new.writer.inner)
+          (report s.setting.program s.history) (history_lines s.setting.program.limits.unit (shown_history s)) told.2,
     )
 
 pub returns-in_err-write_report-clause-text : goal.returns-in_err-write_report-clause-text
@@ -26,7 +28,8 @@ returns-in_err-write_report-clause-text g c untimed =
     rw is (
       told.0,
       told.1,
-      begins-front (g.W.Write.contents c.args.writer.now.inner) (g.W.Write.contents c.write_report.new.writer.inner) (report s.setting.program s.history) (history_lines s.setting.program.limits.unit s.history) told.2,
+      begins-front (g.W.Write.contents c.args.writer.now.inner) (g.W.Write.contents c.write_report.new.writer.inner)
+          (report s.setting.program s.history) (history_lines s.setting.program.limits.unit s.history) told.2,
     )
 
 pub returns-clause-shown : goal.returns-clause-shown
@@ -38,8 +41,11 @@ returns-clause-shown g c =
     let failed = c.write_history.new.writer.failed in
     let result = c.write_history.result in
     let same = c.in_ok-write_report.ensures.same in
-    let lines = lines-are s c.write_report.new.system (unit_of c.format.result) c.history.result.now (shown_history s) same c.format.ensures (c.history.ensures.shown ∙ ap shown_history same) in
-    writes-after old mid new failed result (report s.setting.program s.history) (history_lines s.setting.program.limits.unit (shown_history s)) c.in_ok-write_report.ensures.text.1 (subst (Written mid new failed result) lines c.write_history.ensures)
+    let lines = lines-are s c.write_report.new.system (unit_of c.format.result) c.history.result.now
+    (shown_history s) same c.format.ensures (c.history.ensures.shown ∙ ap shown_history same) in
+    writes-after old mid new failed result (report s.setting.program s.history)
+    (history_lines s.setting.program.limits.unit (shown_history s)) c.in_ok-write_report.ensures.text.1
+    (subst (Written mid new failed result) lines c.write_history.ensures)
 
 pub returns-clause-text : goal.returns-clause-text
 returns-clause-text g c untimed =
@@ -51,5 +57,8 @@ returns-clause-text g c untimed =
     let result = c.write_history.result in
     let same = c.in_ok-write_report.ensures.same in
     let own = c.history.ensures.items (ap (λ (x : Seen). x.setting.timer) same ∙ untimed) in
-    let lines = lines-are s c.write_report.new.system (unit_of c.format.result) c.history.result.now s.history same c.format.ensures (own ∙ ap (λ (x : Seen). x.history) same) in
-    writes-after old mid new failed result (report s.setting.program s.history) (history_lines s.setting.program.limits.unit s.history) c.in_ok-write_report.ensures.text.1 (subst (Written mid new failed result) lines c.write_history.ensures)
+    let lines = lines-are s c.write_report.new.system (unit_of c.format.result) c.history.result.now s.history same
+    c.format.ensures (own ∙ ap (λ (x : Seen). x.history) same) in
+    writes-after old mid new failed result (report s.setting.program s.history)
+    (history_lines s.setting.program.limits.unit s.history) c.in_ok-write_report.ensures.text.1
+    (subst (Written mid new failed result) lines c.write_history.ensures)

@@ -2,7 +2,8 @@ use Rattle.lot_system.proofs.Lemmas.{Program, ap, ended_at, moment_in, sym, time
 use Rattle.lot_system.proofs.figures.ending_in.Goals as goal
 
 pub ending_of-requires-clause-end : goal.ending_of-requires-clause-end
-ending_of-requires-clause-end c = time-end c.args.system.now c.in-InTime.timekeeper (rw c.in-InTime.is at c.requires.over.there) (rw c.in-InTime.is at c.requires.over.ended)
+ending_of-requires-clause-end c = time-end c.args.system.now c.in-InTime.timekeeper
+    (rw c.in-InTime.is at c.requires.over.there) (rw c.in-InTime.is at c.requires.over.ended)
 
 pub returns-in-InTime-clause-ending : goal.returns-in-InTime-clause-ending
 returns-in-InTime-clause-ending c =

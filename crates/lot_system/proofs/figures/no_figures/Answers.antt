@@ -8,4 +8,5 @@ named name = record { name = name; plays = 0; spreads = no_figures.spreads }
 
 pub loop-preserved : goal.loop-preserved
 loop-preserved c =
-    c.in_ok-push.ensures.items ∙ ap (λ name. c.loop.figures.items ++ named name ∷ []) c.no_name.ensures ∙ ap (λ figures. figures ++ no_figures ∷ []) c.loop.invariant ∙ replicate_more c.loop.counter no_figures
+    c.in_ok-push.ensures.items ∙ ap (λ name. c.loop.figures.items ++ named name ∷ []) c.no_name.ensures
+    ∙ ap (λ figures. figures ++ no_figures ∷ []) c.loop.invariant ∙ replicate_more c.loop.counter no_figures

@@ -5,7 +5,8 @@ use Rattle.lot_system.proofs.lines.write_play.Goals as goal
 pub returns-in_err-write_turns-clause-text : goal.returns-in_err-write_turns-clause-text
 returns-in_err-write_turns-clause-text g c =
     let program = c.args.program.now in
-    let is : c.from_residual.result ≡ Err c.in_err-write_turns.field-0.0 = err-is c.from_residual.result _ c.from_residual.ensures.1 in
+    let is : c.from_residual.result ≡ Err c.in_err-write_turns.field-0.0 =
+    err-is c.from_residual.result _ c.from_residual.ensures.1 in
     let told = c.in_err-write_turns.ensures.text in
     let old = g.W.Write.contents c.args.writer.now.inner in
     let new = g.W.Write.contents c.write_turns.new.writer.inner in
@@ -23,7 +24,8 @@ returns-clause-text g c =
     let failed = c.end_play.new.writer.failed in
     let result = c.end_play.result in
     subst (Written old new failed result) (sym (played-texts program program.duration))
-    (writes-after old mid new failed result (made_texts (program_turns program)) (last_report program program.duration) c.in_ok-write_turns.ensures.text.1 c.end_play.ensures.text)
+    (writes-after old mid new failed result (made_texts (program_turns program))
+    (last_report program program.duration) c.in_ok-write_turns.ensures.text.1 c.end_play.ensures.text)
 
 pub returns-clause-stopped : goal.returns-clause-stopped
 returns-clause-stopped g c =

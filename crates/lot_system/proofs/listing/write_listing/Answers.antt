@@ -29,4 +29,6 @@ returns g c =
     let first = front style ++ (decimal c.args.actor ++ (codes " " ++ listing_line kind rows)) in
     let lines = flat_map (row_line style s kind) (range_with_len (first_number kind) (given_count s kind)) in
     let following = listed-after style s kind c.args.actor rows c.count_rows-rows.ensures in
-    subst (Written old new c.write_rows.new.writer.failed c.write_rows.result) following (writes-after old mid new c.write_rows.new.writer.failed c.write_rows.result first lines c.in_ok-write_listing_line.ensures.1 c.write_rows.ensures)
+    subst (Written old new c.write_rows.new.writer.failed c.write_rows.result) following
+    (writes-after old mid new c.write_rows.new.writer.failed c.write_rows.result first lines
+    c.in_ok-write_listing_line.ensures.1 c.write_rows.ensures)

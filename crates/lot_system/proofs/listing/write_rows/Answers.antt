@@ -11,8 +11,12 @@ returns-in_err-write_row g c =
     rw is (
       told.0,
       told.1,
-      range-stops (g.W.Write.contents c.args.writer.now.inner) (g.W.Write.contents c.loop-place.writer.inner) (g.W.Write.contents c.write_row.new.writer.inner) (row_line c.args.style s kind) (first_number kind) c.loop-place.place
-          (given_count s kind) (c.first_number-first.result + c.loop-place.place) (omega (arith, c.loop-place-test.true, c.given_count-place-end.ensures)) (ap (λ n. n + c.loop-place.place) c.first_number-first.ensures.exact) i.bytes told.2,
+      range-stops (g.W.Write.contents c.args.writer.now.inner) (g.W.Write.contents c.loop-place.writer.inner)
+          (g.W.Write.contents c.write_row.new.writer.inner) (row_line c.args.style s kind)
+          (first_number kind) c.loop-place.place
+          (given_count s kind) (c.first_number-first.result + c.loop-place.place)
+          (omega (arith, c.loop-place-test.true, c.given_count-place-end.ensures))
+          (ap (λ n. n + c.loop-place.place) c.first_number-first.ensures.exact) i.bytes told.2,
     )
 
 pub loop-place-preserved : goal.loop-place-preserved
@@ -23,6 +27,8 @@ loop-place-preserved g c =
     let kind = c.args.kind in
     record {
       working = told.0;
-      bytes = range-more (g.W.Write.contents c.args.writer.now.inner) (g.W.Write.contents c.loop-place.writer.inner) (g.W.Write.contents c.write_row.new.writer.inner) (row_line c.args.style s kind) (first_number kind) c.loop-place.place (c.first_number-first.result + c.loop-place.place)
+      bytes = range-more (g.W.Write.contents c.args.writer.now.inner) (g.W.Write.contents c.loop-place.writer.inner)
+          (g.W.Write.contents c.write_row.new.writer.inner) (row_line c.args.style s kind)
+          (first_number kind) c.loop-place.place (c.first_number-first.result + c.loop-place.place)
           (ap (λ n. n + c.loop-place.place) c.first_number-first.ensures.exact) i.bytes told.1;
     }

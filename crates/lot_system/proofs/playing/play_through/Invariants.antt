@@ -5,7 +5,8 @@ use Rattle.lot_system.proofs.playing.play_through.Given as goal
 abbrev pub invariant-loop-next : goal.invariant-loop-next
 invariant-loop-next g l = record {
   setting : l.playback.seen.setting ≡ l.initial.playback.seen.setting;
-  observed : (turns : List MadeTurn) × (program_turns l.program ≡ turns ++ turns_left l.playback) × HasMade l.program turns l.playback.seen × g.O.Observer.observed l.program turns l.initial.observer l.observer;
+  observed : (turns : List MadeTurn) × (program_turns l.program ≡ turns ++ turns_left l.playback)
+      × HasMade l.program turns l.playback.seen × g.O.Observer.observed l.program turns l.initial.observer l.observer;
 }
 
 -- how many are left

@@ -10,8 +10,11 @@ returns-in_err-write_processor g c =
     rw is (
       told.0,
       told.1,
-      range-stops (g.W.Write.contents c.args.writer.now.inner) (g.W.Write.contents c.loop-place.writer.inner) (g.W.Write.contents c.write_processor.new.writer.inner) (processor_total (turns_made s.setting.program s.history)) 1 c.loop-place.place
-          (world_of s).state.limits.processors (c.loop-place.place + 1) (omega (arith, c.loop-place-test.true, c.processors-place-end.ensures.world)) (omega arith) i.bytes told.2,
+      range-stops (g.W.Write.contents c.args.writer.now.inner) (g.W.Write.contents c.loop-place.writer.inner)
+          (g.W.Write.contents c.write_processor.new.writer.inner)
+          (processor_total (turns_made s.setting.program s.history)) 1 c.loop-place.place
+          (world_of s).state.limits.processors (c.loop-place.place + 1)
+          (omega (arith, c.loop-place-test.true, c.processors-place-end.ensures.world)) (omega arith) i.bytes told.2,
     )
 
 pub loop-place-preserved : goal.loop-place-preserved
@@ -21,6 +24,8 @@ loop-place-preserved g c =
     let told = c.in_ok-write_processor.ensures in
     record {
       working = told.0;
-      bytes = range-more (g.W.Write.contents c.args.writer.now.inner) (g.W.Write.contents c.loop-place.writer.inner) (g.W.Write.contents c.write_processor.new.writer.inner) (processor_total (turns_made s.setting.program s.history)) 1 c.loop-place.place
+      bytes = range-more (g.W.Write.contents c.args.writer.now.inner) (g.W.Write.contents c.loop-place.writer.inner)
+          (g.W.Write.contents c.write_processor.new.writer.inner)
+          (processor_total (turns_made s.setting.program s.history)) 1 c.loop-place.place
           (c.loop-place.place + 1) (omega arith) i.bytes told.1;
     }

@@ -6,7 +6,8 @@ abbrev threads : Seen → List ℕ
 threads s = lines_for thread_total (thread_row (world_of s).state) (numbers (world_of s).state.records)
 
 abbrev processors : Seen → List ℕ
-processors s = flat_map (processor_total (turns_made s.setting.program s.history)) (range_with_len 1 (world_of s).state.limits.processors)
+processors s = flat_map (processor_total (turns_made s.setting.program s.history))
+    (range_with_len 1 (world_of s).state.limits.processors)
 
 abbrev totals : Seen → List ℕ
 totals s = whole_total (length (world_of s).history) (turns_made s.setting.program s.history)
@@ -40,8 +41,10 @@ returns-in_err-write_processors-clause-text g c =
     rw is (
       told.0,
       told.1,
-      begins-after old one new (codes "report\n") (threads s ++ (processors s ++ totals s)) c.in_ok-write_report_line.ensures.1
-          (begins-after one two new (threads s) (processors s ++ totals s) (rw c.settle.ensures.state at c.in_ok-write_threads.ensures.1) (begins-front two new (processors s) (totals s) told.2)),
+      begins-after old one new (codes "report\n")
+          (threads s ++ (processors s ++ totals s)) c.in_ok-write_report_line.ensures.1
+          (begins-after one two new (threads s) (processors s ++ totals s) (rw c.settle.ensures.state at
+          c.in_ok-write_threads.ensures.1) (begins-front two new (processors s) (totals s) told.2)),
     )
 
 pub returns-clause-text : goal.returns-clause-text
@@ -57,5 +60,7 @@ returns-clause-text g c =
     let new = g.W.Write.contents c.write_total.new.writer.inner in
     let failed = c.write_total.new.writer.failed in
     let result = c.write_total.result in
-    writes-after old one new failed result (codes "report\n") (threads s ++ (processors s ++ totals s)) c.in_ok-write_report_line.ensures.1
-    (writes-after one two new failed result (threads s) (processors s ++ totals s) (rw c.settle.ensures.state at c.in_ok-write_threads.ensures.1) (writes-after two three new failed result (processors s) (totals s) third.1 last))
+    writes-after old one new failed result (codes "report\n")
+    (threads s ++ (processors s ++ totals s)) c.in_ok-write_report_line.ensures.1
+    (writes-after one two new failed result (threads s) (processors s ++ totals s) (rw c.settle.ensures.state at
+    c.in_ok-write_threads.ensures.1) (writes-after two three new failed result (processors s) (totals s) third.1 last))

@@ -13,8 +13,11 @@ returns-in_err-write_thread g c =
     rw is (
       told.0,
       told.1,
-      range-stops (g.W.Write.contents c.args.writer.now.inner) (g.W.Write.contents c.loop-place.writer.inner) (g.W.Write.contents c.write_thread.new.writer.inner) (line c.args.layout c.args.settled.kernel.now.state) 1 c.loop-place.place
-          (length c.args.settled.kernel.now.state.records) (c.loop-place.place + 1) (omega (arith, c.loop-place-test.true, c.thread_count-place-end.ensures)) (omega arith) i.bytes told.2,
+      range-stops (g.W.Write.contents c.args.writer.now.inner) (g.W.Write.contents c.loop-place.writer.inner)
+          (g.W.Write.contents c.write_thread.new.writer.inner)
+          (line c.args.layout c.args.settled.kernel.now.state) 1 c.loop-place.place
+          (length c.args.settled.kernel.now.state.records) (c.loop-place.place + 1)
+          (omega (arith, c.loop-place-test.true, c.thread_count-place-end.ensures)) (omega arith) i.bytes told.2,
     )
 
 pub loop-place-preserved : goal.loop-place-preserved
@@ -23,5 +26,7 @@ loop-place-preserved g c =
     let told = c.in_ok-write_thread.ensures in
     record {
       working = told.0;
-      bytes = range-more (g.W.Write.contents c.args.writer.now.inner) (g.W.Write.contents c.loop-place.writer.inner) (g.W.Write.contents c.write_thread.new.writer.inner) (line c.args.layout c.args.settled.kernel.now.state) 1 c.loop-place.place (c.loop-place.place + 1) (omega arith) i.bytes told.1;
+      bytes = range-more (g.W.Write.contents c.args.writer.now.inner) (g.W.Write.contents c.loop-place.writer.inner)
+          (g.W.Write.contents c.write_thread.new.writer.inner) (line c.args.layout c.args.settled.kernel.now.state) 1
+          c.loop-place.place (c.loop-place.place + 1) (omega arith) i.bytes told.1;
     }

@@ -9,12 +9,15 @@ returns-clause-stopped g c =
     let seen = c.into_parts-system.result.0 in
     let order = c.into_parts-system.result.1 in
     let old = c.args.warnings.now.stopped in
-    let at = stopped-at-end program c.args.playback seen order c.requires.made.program_is parts.system parts.made parts.order c.requires.ended in
+    let at = stopped-at-end program c.args.playback seen order c.requires.made.program_is parts.system parts.made
+    parts.order c.requires.ended in
     on-any c.write_flushed-written.result
-    (c.note_ended.ensures ∙ ap (λ (s : Seen). old || stopped_in program s order) c.write_flushed-written.ensures.same ∙ ap (λ b. old || b) at)
+    (c.note_ended.ensures ∙ ap (λ (s : Seen). old || stopped_in program s order) c.write_flushed-written.ensures.same
+    ∙ ap (λ b. old || b) at)
 
 pub write_flushed-written-requires-clause-made : goal.write_flushed-written-requires-clause-made
-write_flushed-written-requires-clause-made g c = subst (HasMade c.args.program.now (program_turns c.args.program.now)) (sym c.into_parts-system.ensures.system) c.requires.made
+write_flushed-written-requires-clause-made g c = subst (HasMade c.args.program.now (program_turns c.args.program.now))
+    (sym c.into_parts-system.ensures.system) c.requires.made
 
 pub write_flushed-written-requires-clause-order : goal.write_flushed-written-requires-clause-order
 write_flushed-written-requires-clause-order g c = c.into_parts-system.ensures.order
@@ -22,18 +25,21 @@ write_flushed-written-requires-clause-order g c = c.into_parts-system.ensures.or
 pub write_flushed-written-requires-clause-ended : goal.write_flushed-written-requires-clause-ended
 write_flushed-written-requires-clause-ended g c =
     let parts = c.into_parts-system.ensures in
-    (over-at-end c.args.playback c.into_parts-system.result.0 c.into_parts-system.result.1 parts.system parts.made parts.order c.requires.ended).ended
+    (over-at-end c.args.playback c.into_parts-system.result.0 c.into_parts-system.result.1 parts.system parts.made
+    parts.order c.requires.ended).ended
 
 pub write_flushed-written-requires-clause-working : goal.write_flushed-written-requires-clause-working
 write_flushed-written-requires-clause-working g c = c.requires.working
 
 pub note_ended-requires-clause-program : goal.note_ended-requires-clause-program
 note_ended-requires-clause-program g c =
-    ap (λ (s : Seen). s.setting.program) (c.write_flushed-written.ensures.same ∙ c.into_parts-system.ensures.system) ∙ c.requires.made.program_is
+    ap (λ (s : Seen). s.setting.program) (c.write_flushed-written.ensures.same ∙ c.into_parts-system.ensures.system)
+    ∙ c.requires.made.program_is
 
 pub note_ended-requires-clause-order : goal.note_ended-requires-clause-order
 note_ended-requires-clause-order g c =
-    subst (λ (s : Seen). IsInOrder s c.into_parts-system.result.1) (sym c.write_flushed-written.ensures.same) c.into_parts-system.ensures.order
+    subst (λ (s : Seen). IsInOrder s c.into_parts-system.result.1)
+    (sym c.write_flushed-written.ensures.same) c.into_parts-system.ensures.order
 
 pub returns-clause-flushed : goal.returns-clause-flushed
 returns-clause-flushed g c = c.write_flushed-written.ensures.flushed

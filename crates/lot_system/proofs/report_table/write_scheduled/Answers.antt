@@ -14,5 +14,7 @@ returns-in_err-write_header-clause-text g c =
 
 pub returns-clause-text : goal.returns-clause-text
 returns-clause-text g c =
-    writes-after (g.W.Write.contents c.args.writer.now.inner) (g.W.Write.contents c.write_header.new.writer.inner) (g.W.Write.contents c.write_threads.new.writer.inner) c.write_threads.new.writer.failed c.write_threads.result
-    (header_row Schedule false) (threads c.args.system.now) c.in_ok-write_header.ensures.1 (rw c.settle.ensures.state at c.write_threads.ensures)
+    writes-after (g.W.Write.contents c.args.writer.now.inner) (g.W.Write.contents c.write_header.new.writer.inner)
+    (g.W.Write.contents c.write_threads.new.writer.inner) c.write_threads.new.writer.failed c.write_threads.result
+    (header_row Schedule false) (threads c.args.system.now) c.in_ok-write_header.ensures.1
+    (rw c.settle.ensures.state at c.write_threads.ensures)

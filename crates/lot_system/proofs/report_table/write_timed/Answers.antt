@@ -16,7 +16,8 @@ returns-in_err-write_header-clause-text g c =
     rw is (
       told.0,
       told.1,
-      begins-front (g.W.Write.contents c.args.writer.now.inner) (g.W.Write.contents c.write_header.new.writer.inner) (header_row c.args.table false)
+      begins-front (g.W.Write.contents c.args.writer.now.inner) (g.W.Write.contents c.write_header.new.writer.inner)
+          (header_row c.args.table false)
           (rows s w (ended_at c.args.program.now (moment_in s w)) (subject_of c.args.table)) told.2,
     )
 
@@ -25,7 +26,11 @@ returns-clause-text g c =
     let s = c.args.system.now in
     let w = c.args.timekeeper.now in
     let last = rw c.ending_of-ending.ensures.same at c.write_subjects.ensures.text in
-    let text = ap (rows s w c.ending_of-ending.result.time) c.subject-subject.ensures ∙ ap (λ end. rows s w end (subject_of c.args.table)) c.ending_of-ending.ensures.time in
-    let second = subst (Written (g.W.Write.contents c.write_header.new.writer.inner) (g.W.Write.contents c.write_subjects.new.writer.inner) c.write_subjects.new.writer.failed c.write_subjects.result) text last in
-    writes-after (g.W.Write.contents c.args.writer.now.inner) (g.W.Write.contents c.write_header.new.writer.inner) (g.W.Write.contents c.write_subjects.new.writer.inner) c.write_subjects.new.writer.failed c.write_subjects.result
-    (header_row c.args.table false) (rows s w (ended_at c.args.program.now (moment_in s w)) (subject_of c.args.table)) c.in_ok-write_header.ensures.1 second
+    let text = ap (rows s w c.ending_of-ending.result.time) c.subject-subject.ensures
+    ∙ ap (λ end. rows s w end (subject_of c.args.table)) c.ending_of-ending.ensures.time in
+    let second = subst (Written (g.W.Write.contents c.write_header.new.writer.inner) (g.W.Write.contents
+    c.write_subjects.new.writer.inner) c.write_subjects.new.writer.failed c.write_subjects.result) text last in
+    writes-after (g.W.Write.contents c.args.writer.now.inner) (g.W.Write.contents c.write_header.new.writer.inner)
+    (g.W.Write.contents c.write_subjects.new.writer.inner) c.write_subjects.new.writer.failed c.write_subjects.result
+    (header_row c.args.table false) (rows s w (ended_at c.args.program.now (moment_in s w)) (subject_of c.args.table))
+    c.in_ok-write_header.ensures.1 second

@@ -4,7 +4,8 @@ use Rattle.lot_system.proofs.Common.{AreMany, AreOverOneMore, OnOk, Program, end
 use Rattle.lot_system.proofs.seeds.play_with.Goals as goal
 
 pub play_seeded-requires : goal.play_seeded-requires
-play_seeded-requires c = record { many = subst (λ (p : Program). AreMany p c.args.all.now) (sym c.in_ok-program.ensures) (seeded-many c.args.program.now c.args.seed c.args.all.now c.requires.many) }
+play_seeded-requires c =
+    record { many = subst (λ (p : Program). AreMany p c.args.all.now) (sym c.in_ok-program.ensures) (seeded-many c.args.program.now c.args.seed c.args.all.now c.requires.many) }
 
 pub returns-clause-played : goal.returns-clause-played
 returns-clause-played c =
@@ -13,5 +14,6 @@ returns-clause-played c =
 
 pub returns-clause-stopped : goal.returns-clause-stopped
 returns-clause-stopped c =
-    subst (λ (p : Program). OnOk c.play_seeded.result (c.play_seeded.new.warnings.stopped ≡ (c.args.warnings.now.stopped || ends_refused p)))
+    subst (λ (p : Program).
+    OnOk c.play_seeded.result (c.play_seeded.new.warnings.stopped ≡ (c.args.warnings.now.stopped || ends_refused p)))
     c.in_ok-program.ensures c.play_seeded.ensures.stopped

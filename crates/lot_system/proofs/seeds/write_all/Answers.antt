@@ -14,7 +14,9 @@ returns-in_err-write_subjects g c =
     rw is (
       told.0,
       told.1,
-      part-stops text (g.W.Write.contents c.args.writer.now.inner) (g.W.Write.contents c.loop-rest.writer.inner) (g.W.Write.contents c.write_subjects.new.writer.inner) (flat_map text all_subjects) c.loop-rest.rest.now Thread
+      part-stops text (g.W.Write.contents c.args.writer.now.inner) (g.W.Write.contents c.loop-rest.writer.inner)
+          (g.W.Write.contents c.write_subjects.new.writer.inner)
+          (flat_map text all_subjects) c.loop-rest.rest.now Thread
           c.in-len1-up.len_at_least c.loop-rest.invariant.bytes told.2,
     )
 
@@ -24,6 +26,8 @@ loop-rest-preserved g c =
     let text = lines c.args.program.now c.args.seeds.now.first c.args.seeds.now.last in
     record {
       working = told.0;
-      bytes = part-more text (g.W.Write.contents c.args.writer.now.inner) (g.W.Write.contents c.loop-rest.writer.inner) (g.W.Write.contents c.write_subjects.new.writer.inner) (flat_map text all_subjects) c.loop-rest.rest.now Thread
+      bytes = part-more text (g.W.Write.contents c.args.writer.now.inner) (g.W.Write.contents c.loop-rest.writer.inner)
+          (g.W.Write.contents c.write_subjects.new.writer.inner)
+          (flat_map text all_subjects) c.loop-rest.rest.now Thread
           c.in-len1-up.len_at_least c.loop-rest.invariant.bytes told.1;
     }

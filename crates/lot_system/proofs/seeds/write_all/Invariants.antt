@@ -6,7 +6,8 @@ use Rattle.lot_system.proofs.seeds.write_all.Given as goal
 abbrev pub invariant-loop-rest : goal.invariant-loop-rest
 invariant-loop-rest g l = record {
   working : l.writer.failed ≡ false;
-  bytes : IsPart (subjects_over None l.fn.program (seeds_between l.fn.seeds.first l.fn.seeds.last)) (g.W.Write.contents l.fn.writer.inner) (g.W.Write.contents l.writer.inner)
+  bytes : IsPart (subjects_over None l.fn.program (seeds_between l.fn.seeds.first l.fn.seeds.last))
+      (g.W.Write.contents l.fn.writer.inner) (g.W.Write.contents l.writer.inner)
       (flat_map (subjects_over None l.fn.program (seeds_between l.fn.seeds.first l.fn.seeds.last)) all_subjects) l.rest;
 }
 

@@ -7,7 +7,9 @@ use Rattle.lot_system.proofs.seeds.write_report.Goals as goal
 abbrev lines : Option tables.Table → Program → ℕ → ℕ → List ℕ
 lines table program first last = flat_map (subjects_over table program (seeds_between first last)) (subjects_in table)
 
-text-is : (form : ReportForm) (program : Program) (first last : ℕ) (table : Option tables.Table) → table ≡ table_of form program.duration → (seeds_heading table first last ++ lines table program first last) ≡ seeds_report form first last program
+text-is : (form : ReportForm) (program : Program) (first last : ℕ) (table : Option tables.Table)
+    → table ≡ table_of form program.duration
+    → (seeds_heading table first last ++ lines table program first last) ≡ seeds_report form first last program
 text-is form program first last table is = ap (λ t. seeds_heading t first last ++ lines t program first last) is
 
 pub returns-in_err-write_heading-clause-text : goal.returns-in_err-write_heading-clause-text
@@ -22,7 +24,9 @@ returns-in_err-write_heading-clause-text g c =
     rw is (
       told.0,
       told.1,
-      subst (Begins old new) (text-is c.args.form program seeds.first seeds.last table c.table_of-table.ensures) (begins-front old new (seeds_heading table seeds.first seeds.last) (lines table program seeds.first seeds.last) told.2),
+      subst (Begins old new) (text-is c.args.form program seeds.first seeds.last table c.table_of-table.ensures)
+          (begins-front old new (seeds_heading table seeds.first seeds.last)
+          (lines table program seeds.first seeds.last) told.2),
     )
 
 pub returns-in_err-write_lines-clause-text : goal.returns-in_err-write_lines-clause-text
@@ -39,7 +43,8 @@ returns-in_err-write_lines-clause-text g c =
       told.0,
       told.1,
       subst (Begins old two) (text-is c.args.form program seeds.first seeds.last table c.table_of-table.ensures)
-          (begins-after old one two (seeds_heading table seeds.first seeds.last) (lines table program seeds.first seeds.last) c.in_ok-write_heading.ensures.1 told.2),
+          (begins-after old one two (seeds_heading table seeds.first seeds.last)
+          (lines table program seeds.first seeds.last) c.in_ok-write_heading.ensures.1 told.2),
     )
 
 pub returns-clause-text : goal.returns-clause-text
@@ -53,6 +58,8 @@ returns-clause-text g c =
     let three = g.W.Write.contents c.flush.new.writer.inner in
     let line = seeds_heading table seeds.first seeds.last in
     let others = lines table program seeds.first seeds.last in
-    let both : Appends old two (line ++ others) = appends-both old one two line others c.in_ok-write_heading.ensures.1 c.in_ok-write_lines.ensures.1 in
-    subst (Written old three c.flush.new.writer.failed c.flush.result) (text-is c.args.form program seeds.first seeds.last table c.table_of-table.ensures)
+    let both : Appends old two (line ++ others) =
+    appends-both old one two line others c.in_ok-write_heading.ensures.1 c.in_ok-write_lines.ensures.1 in
+    subst (Written old three c.flush.new.writer.failed c.flush.result)
+    (text-is c.args.form program seeds.first seeds.last table c.table_of-table.ensures)
     (writes-flushed old two three c.flush.new.writer.failed c.flush.result (line ++ others) both c.flush.ensures.text)

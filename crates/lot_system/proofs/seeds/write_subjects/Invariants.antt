@@ -6,5 +6,6 @@ abbrev pub invariant-loop-place : goal.invariant-loop-place
 invariant-loop-place g l = record {
   working : l.writer.failed ≡ false;
   bytes : Appends (g.W.Write.contents l.fn.writer.inner) (g.W.Write.contents l.writer.inner)
-      (flat_map (λ n. figures_text l.fn.table l.fn.subject n (figures_over l.fn.subject l.fn.program (seeds_between l.fn.seeds.first l.fn.seeds.last) n)) (range_with_len 1 l.place));
+      (flat_map (λ n. figures_text l.fn.table l.fn.subject n (figures_over l.fn.subject l.fn.program
+      (seeds_between l.fn.seeds.first l.fn.seeds.last) n)) (range_with_len 1 l.place));
 }

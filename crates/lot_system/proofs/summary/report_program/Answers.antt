@@ -4,8 +4,11 @@ use Rattle.lot_system.proofs.summary.report_program.Goals as goal
 
 pub returns-in_err-end_in_form-clause-reported : goal.returns-in_err-end_in_form-clause-reported
 returns-in_err-end_in_form-clause-reported g c =
-    let is : c.from_residual.result ≡ Err c.in_err-end_in_form.field-0.0 = err-is c.from_residual.result _ c.from_residual.ensures.1 in
-    ends-err (g.W.Write.contents c.args.writer.now.inner) (g.W.Write.contents c.end_in_form.new.writer.inner) (report_text c.args.form c.args.program.now) c.end_in_form.new.writer.failed c.from_residual.result _ is c.in_err-end_in_form.ensures.text
+    let is : c.from_residual.result ≡ Err c.in_err-end_in_form.field-0.0 =
+    err-is c.from_residual.result _ c.from_residual.ensures.1 in
+    ends-err (g.W.Write.contents c.args.writer.now.inner) (g.W.Write.contents c.end_in_form.new.writer.inner)
+    (report_text c.args.form c.args.program.now) c.end_in_form.new.writer.failed c.from_residual.result _ is
+    c.in_err-end_in_form.ensures.text
 
 pub note_turns-requires-clause-none : goal.note_turns-requires-clause-none
 note_turns-requires-clause-none g c = c.in-Ok.ensures.none
@@ -35,4 +38,5 @@ pub returns-clause-reported : goal.returns-clause-reported
 returns-clause-reported g c = (refl, c.in_ok-end_in_form.ensures.text.0, c.in_ok-end_in_form.ensures.text.1)
 
 pub returns-clause-stopped : goal.returns-clause-stopped
-returns-clause-stopped g c = c.in_ok-end_in_form.ensures.stopped ∙ ap (λ b. b || ends_refused c.args.program.now) c.note_turns.ensures.stopped
+returns-clause-stopped g c = c.in_ok-end_in_form.ensures.stopped
+    ∙ ap (λ b. b || ends_refused c.args.program.now) c.note_turns.ensures.stopped

@@ -16,7 +16,9 @@ returns-in_err-write_subjects-clause-text g c =
     rw is (
       told.0,
       told.1,
-      part-stops text (g.W.Write.contents c.args.writer.now.inner) (g.W.Write.contents c.loop-rest.writer.inner) (g.W.Write.contents c.write_subjects.new.writer.inner) (flat_map text all_subjects) c.loop-rest.rest.now Thread
+      part-stops text (g.W.Write.contents c.args.writer.now.inner) (g.W.Write.contents c.loop-rest.writer.inner)
+          (g.W.Write.contents c.write_subjects.new.writer.inner)
+          (flat_map text all_subjects) c.loop-rest.rest.now Thread
           c.in-len1-up.len_at_least i.bytes told.2,
     )
 
@@ -28,6 +30,8 @@ loop-rest-preserved g c =
     record {
       working = told.0;
       system = c.in_ok-write_subjects.ensures.same ∙ i.system;
-      bytes = part-more text (g.W.Write.contents c.args.writer.now.inner) (g.W.Write.contents c.loop-rest.writer.inner) (g.W.Write.contents c.write_subjects.new.writer.inner) (flat_map text all_subjects) c.loop-rest.rest.now Thread
+      bytes = part-more text (g.W.Write.contents c.args.writer.now.inner) (g.W.Write.contents c.loop-rest.writer.inner)
+          (g.W.Write.contents c.write_subjects.new.writer.inner)
+          (flat_map text all_subjects) c.loop-rest.rest.now Thread
           c.in-len1-up.len_at_least i.bytes told.1;
     }

@@ -8,8 +8,10 @@ abbrev pub invariant-loop-rest : goal.invariant-loop-rest
 invariant-loop-rest g l = record {
   working : l.writer.failed ≡ false;
   system : l.system ≡ l.fn.system;
-  bytes : IsPart (subjects_text InLine (moment_in l.fn.system l.fn.timekeeper) l.fn.ending.time (timed_turns l.fn.system.setting.program)) (g.W.Write.contents l.fn.writer.inner) (g.W.Write.contents l.writer.inner)
-      (flat_map (subjects_text InLine (moment_in l.fn.system l.fn.timekeeper) l.fn.ending.time (timed_turns l.fn.system.setting.program)) all_subjects) l.rest;
+  bytes : IsPart (subjects_text InLine (moment_in l.fn.system l.fn.timekeeper) l.fn.ending.time (timed_turns
+      l.fn.system.setting.program)) (g.W.Write.contents l.fn.writer.inner) (g.W.Write.contents l.writer.inner)
+      (flat_map (subjects_text InLine (moment_in l.fn.system l.fn.timekeeper) l.fn.ending.time
+      (timed_turns l.fn.system.setting.program)) all_subjects) l.rest;
 }
 
 abbrev pub decreases-loop-rest : goal.decreases-loop-rest

@@ -20,7 +20,11 @@ returns-clause-text g c =
     let s = c.args.system.now in
     let w = c.args.timekeeper.now in
     let time = c.ending_of-ending.result.time in
-    let text = ap (λ (x : Seen). lines x w time) c.ending_of-ending.ensures.same ∙ ap (lines s w) c.ending_of-ending.ensures.time in
-    let second = subst (Written (g.W.Write.contents c.write_report_line.new.writer.inner) (g.W.Write.contents c.write_all.new.writer.inner) c.write_all.new.writer.failed c.write_all.result) text c.write_all.ensures.text in
-    writes-after (g.W.Write.contents c.args.writer.now.inner) (g.W.Write.contents c.write_report_line.new.writer.inner) (g.W.Write.contents c.write_all.new.writer.inner) c.write_all.new.writer.failed c.write_all.result
-    (codes "report\n") (lines s w (ended_at c.args.program.now (moment_in s w))) c.in_ok-write_report_line.ensures.1 second
+    let text = ap (λ (x : Seen). lines x w time) c.ending_of-ending.ensures.same
+    ∙ ap (lines s w) c.ending_of-ending.ensures.time in
+    let second = subst (Written (g.W.Write.contents c.write_report_line.new.writer.inner) (g.W.Write.contents
+    c.write_all.new.writer.inner) c.write_all.new.writer.failed c.write_all.result) text c.write_all.ensures.text in
+    writes-after (g.W.Write.contents c.args.writer.now.inner) (g.W.Write.contents c.write_report_line.new.writer.inner)
+    (g.W.Write.contents c.write_all.new.writer.inner) c.write_all.new.writer.failed c.write_all.result
+    (codes "report\n")
+    (lines s w (ended_at c.args.program.now (moment_in s w))) c.in_ok-write_report_line.ensures.1 second

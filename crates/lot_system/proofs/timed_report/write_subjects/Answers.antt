@@ -16,9 +16,11 @@ returns-in_err-write_subject-clause-text g c =
     rw is (
       told.0,
       told.1,
-      range-stops (g.W.Write.contents c.args.writer.now.inner) (g.W.Write.contents c.loop-place.writer.inner) (g.W.Write.contents c.write_subject.new.writer.inner)
+      range-stops (g.W.Write.contents c.args.writer.now.inner) (g.W.Write.contents c.loop-place.writer.inner)
+          (g.W.Write.contents c.write_subject.new.writer.inner)
           (line c.args.layout s c.args.timekeeper.now c.args.ending.time c.args.subject) 1 c.loop-place.place
-          (count_of (world_of s).state c.args.subject) (c.loop-place.place + 1) (omega (arith, c.loop-place-test.true, c.count_of-place-end.ensures.count)) (omega arith) i.bytes told.2,
+          (count_of (world_of s).state c.args.subject) (c.loop-place.place + 1)
+          (omega (arith, c.loop-place-test.true, c.count_of-place-end.ensures.count)) (omega arith) i.bytes told.2,
     )
 
 pub loop-place-preserved : goal.loop-place-preserved
@@ -29,6 +31,8 @@ loop-place-preserved g c =
     record {
       working = told.0;
       system = c.in_ok-write_subject.ensures.same ∙ i.system;
-      bytes = range-more (g.W.Write.contents c.args.writer.now.inner) (g.W.Write.contents c.loop-place.writer.inner) (g.W.Write.contents c.write_subject.new.writer.inner)
-          (line c.args.layout s c.args.timekeeper.now c.args.ending.time c.args.subject) 1 c.loop-place.place (c.loop-place.place + 1) (omega arith) i.bytes told.1;
+      bytes = range-more (g.W.Write.contents c.args.writer.now.inner) (g.W.Write.contents c.loop-place.writer.inner)
+          (g.W.Write.contents c.write_subject.new.writer.inner)
+          (line c.args.layout s c.args.timekeeper.now c.args.ending.time c.args.subject) 1 c.loop-place.place
+          (c.loop-place.place + 1) (omega arith) i.bytes told.1;
     }

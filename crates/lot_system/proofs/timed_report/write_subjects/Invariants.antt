@@ -7,5 +7,6 @@ invariant-loop-place g l = record {
   working : l.writer.failed ≡ false;
   system : l.system ≡ l.fn.system;
   bytes : Appends (g.W.Write.contents l.fn.writer.inner) (g.W.Write.contents l.writer.inner)
-      (flat_map (subject_text l.fn.layout (moment_in l.fn.system l.fn.timekeeper) l.fn.ending.time (timed_turns l.fn.system.setting.program) l.fn.subject) (range_with_len 1 l.place));
+      (flat_map (subject_text l.fn.layout (moment_in l.fn.system l.fn.timekeeper) l.fn.ending.time
+      (timed_turns l.fn.system.setting.program) l.fn.subject) (range_with_len 1 l.place));
 }

@@ -5,7 +5,8 @@ use Rattle.lot_system.proofs.timed_report.write_timed_report.Goals as goal
 
 -- the lines of each report
 abbrev lines : Seen → Timekeeper → Program → List ℕ
-lines s w program = timed_report_of program (moment_in s w) (ended_at program (moment_in s w)) (timed_turns s.setting.program)
+lines s w program =
+    timed_report_of program (moment_in s w) (ended_at program (moment_in s w)) (timed_turns s.setting.program)
 
 -- the line of an early end
 abbrev last : Seen → Timekeeper → Program → List ℕ
@@ -34,5 +35,7 @@ returns-clause-text g c =
     let failed = c.write_early.new.writer.failed in
     let result = c.write_early.result in
     let line = early-line s c.write_lines.new.system w program c.early_end.result first.same c.early_end.ensures in
-    let second : Written mid new failed result (last s w program) = subst (Written mid new failed result) line c.write_early.ensures in
-    subst (Written old new failed result) (report-is s w c.requires.end program c.requires.program) (writes-after old mid new failed result (lines s w program) (last s w program) first.text.1 second)
+    let second : Written mid new failed result (last s w program) =
+    subst (Written mid new failed result) line c.write_early.ensures in
+    subst (Written old new failed result) (report-is s w c.requires.end program c.requires.program)
+    (writes-after old mid new failed result (lines s w program) (last s w program) first.text.1 second)

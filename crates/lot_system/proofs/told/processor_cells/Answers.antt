@@ -12,7 +12,8 @@ unfolding processor_cells
 returns c =
     let s = c.args.system.now in
     let w = c.args.timekeeper.now in
-    let counts = c.counts-counts.ensures ∙ ap (λ ts. counted (turns_of c.args.processor ts)) (turns-are s w c.requires.end) in
+    let counts = c.counts-counts.ensures
+    ∙ ap (λ ts. counted (turns_of c.args.processor ts)) (turns-are s w c.requires.end) in
     let quanta = c.number.ensures ∙ ap (λ (t : Counts). number t.quanta) counts in
     let idles = c.number-2.ensures ∙ ap (λ (t : Counts). number t.idles) counts in
     let ticks = c.number-3.ensures ∙ ap (λ (t : Counts). number t.ticks) counts in

@@ -26,8 +26,8 @@ fn check_shares(
     check_same_at(rt, &input, &found, &Ok((played, true)));
 }
 
-/// What a table measures, its input, how it is played, and the table. A removed thread keeps its column, with its number
-/// as the name.
+/// What a table measures, its input, how it is played, and the table. A removed thread keeps its column, with its
+/// number as the name.
 const TABLES: &[(Measure, &str, Played, &str)] = &[
     (
         Measure::Ticks,

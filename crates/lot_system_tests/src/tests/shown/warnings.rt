@@ -77,7 +77,8 @@ const NO_NAME_IS_NEAR: &[&str] = &[
     "fundx 1 base b spin\nkill a\n -> line 8: the command was refused: no thread has the name 'a'\n",
 ];
 
-/// Thread `alice` ends at its first tick. The name of a removed thread, or one given by a later line, is no misspelling.
+/// Thread `alice` ends at its first tick. The name of a removed thread, or one given by a later line, is no
+/// misspelling.
 const NAMES_OF_ANOTHER_TIME: &[&str] = &[
     "fundx 1 base alice stop\nmkcur alicf\nat 5\nunfund 1\nrmthr alice\nrmthr alice\n -> \
     line 12: the command was refused: no thread has the name 'alice'\n",

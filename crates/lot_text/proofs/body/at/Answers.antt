@@ -5,5 +5,6 @@ use Rattle.lot_text.proofs.body.at.Goals as goal
 pub returns-in_err-tick : goal.returns-in_err-tick
 returns-in_err-tick c n =
     let other =
-    alone-refused (body_after_header n c.args.reading.now body.At) c.args.tokens c.in_err-tick.field-0.0 refl (λ a b others. refl) c.in_err-tick.ensures in
+    alone-refused (body_after_header n c.args.reading.now body.At) c.args.tokens c.in_err-tick.field-0.0 refl
+    (λ a b others. refl) c.in_err-tick.ensures in
     Gives-refusal _ c.from_residual.result c.in_err-tick.field-0.0 _ c.from_residual.ensures other

@@ -1,4 +1,4 @@
-use Rattle.lot_text.proofs.Lemmas.{Gives-memory, Gives-refusal, ap, arith, length, length-append, mutex-line, reading_of, refl, with_mutexes, [], ◌∷◌}
+use Rattle.lot_text.proofs.Lemmas.{Gives-memory, Gives-refusal, mutex-line, refl}
 use Rattle.lot_text.proofs.body.mutex.Goals as goal
 
 pub returns-in_err-name : goal.returns-in_err-name
@@ -8,11 +8,6 @@ returns-in_err-name c n =
 
 pub returns-in_err-push : goal.returns-in_err-push
 returns-in_err-push c n = Gives-memory _ c.from_residual-in_err-push.result _ c.from_residual-in_err-push.ensures
-
-pub invariant_of-reading-2 : goal.invariant_of-reading-2
-invariant_of-reading-2 c =
-    with_mutexes (reading_of c.reading.inside) c.push.new.self.items c.reading.invariant
-    (omega (arith, ap length c.in_ok-push.ensures.items, length-append c.reading.inside.mutexes.items (c.in_ok-name.name ∷ []), c.in_ok-name.ensures.room, ap length c.as_slice.ensures.value))
 
 pub returns : goal.returns
 returns c n =

@@ -6,4 +6,5 @@ pub read_processors-requires-clause-unseeded : goal.read_processors-requires-cla
 read_processors-requires-clause-unseeded c = early-unseeded c.args.reading.now (rw c.in-Processors.is at c.requires)
 
 pub read_processors-requires-clause-early : goal.read_processors-requires-clause-early
-read_processors-requires-clause-early c = early-place c.args.reading.now header.Processors (rw c.in-Processors.is at c.requires)
+read_processors-requires-clause-early c =
+    early-place c.args.reading.now header.Processors (rw c.in-Processors.is at c.requires)

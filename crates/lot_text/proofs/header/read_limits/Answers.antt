@@ -12,7 +12,8 @@ returns-in_err-tickets c =
 
 pub returns-in_err-currencies : goal.returns-in_err-currencies
 returns-in_err-currencies c =
-    Gives-refusal _ c.from_residual-in_err-currencies.result c.in_err-currencies.field-0.0 _ c.from_residual-in_err-currencies.ensures
+    Gives-refusal _ c.from_residual-in_err-currencies.result c.in_err-currencies.field-0.0 _
+    c.from_residual-in_err-currencies.ensures
     (rw (
       c.in_ok-tickets.ensures,
       c.in_err-currencies.ensures.1,
@@ -22,13 +23,16 @@ returns-in_err-currencies c =
 pub returns-in_err-threads : goal.returns-in_err-threads
 returns-in_err-threads c =
     let other =
-    alone-refused (λ tokens. header_line c.args.reading.now header.Limits (c.in_ok-tickets.tickets.now ∷ c.in_ok-currencies.currencies.now ∷ tokens))
+    alone-refused (λ tokens. header_line c.args.reading.now header.Limits
+    (c.in_ok-tickets.tickets.now ∷ c.in_ok-currencies.currencies.now ∷ tokens))
     c.expected-2.new.self c.in_err-threads.field-0.0 refl (λ a b others. refl) c.in_err-threads.ensures in
-    Gives-refusal _ c.from_residual-in_err-threads.result c.in_err-threads.field-0.0 _ c.from_residual-in_err-threads.ensures (rw (c.in_ok-tickets.ensures, c.in_ok-currencies.ensures) other)
+    Gives-refusal _ c.from_residual-in_err-threads.result c.in_err-threads.field-0.0 _
+    c.from_residual-in_err-threads.ensures (rw (c.in_ok-tickets.ensures, c.in_ok-currencies.ensures) other)
 
 pub returns-in_err-tickets-2 : goal.returns-in_err-tickets-2
 returns-in_err-tickets-2 c =
-    Gives-refusal _ c.from_residual-in_err-tickets-2.result c.in_err-tickets-2.field-0.0 _ c.from_residual-in_err-tickets-2.ensures
+    Gives-refusal _ c.from_residual-in_err-tickets-2.result c.in_err-tickets-2.field-0.0 _
+    c.from_residual-in_err-tickets-2.ensures
     (rw (
       c.in_ok-tickets.ensures,
       c.in_ok-currencies.ensures,
@@ -38,7 +42,8 @@ returns-in_err-tickets-2 c =
 
 pub returns-in_err-currencies-2 : goal.returns-in_err-currencies-2
 returns-in_err-currencies-2 c =
-    Gives-refusal _ c.from_residual-in_err-currencies-2.result c.in_err-currencies-2.field-0.0 _ c.from_residual-in_err-currencies-2.ensures
+    Gives-refusal _ c.from_residual-in_err-currencies-2.result c.in_err-currencies-2.field-0.0 _
+    c.from_residual-in_err-currencies-2.ensures
     (rw (
       c.in_ok-tickets.ensures,
       c.in_ok-currencies.ensures,
@@ -49,7 +54,8 @@ returns-in_err-currencies-2 c =
 
 pub returns-in_err-threads-2 : goal.returns-in_err-threads-2
 returns-in_err-threads-2 c =
-    Gives-refusal _ c.from_residual-in_err-threads-2.result c.in_err-threads-2.field-0.0 _ c.from_residual-in_err-threads-2.ensures
+    Gives-refusal _ c.from_residual-in_err-threads-2.result c.in_err-threads-2.field-0.0 _
+    c.from_residual-in_err-threads-2.ensures
     (rw (
       c.in_ok-tickets.ensures,
       c.in_ok-currencies.ensures,
@@ -62,6 +68,8 @@ returns-in_err-threads-2 c =
 pub returns : goal.returns
 returns c =
     rw (c.in_ok-tickets.ensures, c.in_ok-currencies.ensures, c.in_ok-threads.ensures)
-    (limits-read (reading_of c.reading.inside) c.args.reading.now c.in_ok-tickets.tickets.now c.in_ok-currencies.currencies.now c.in_ok-threads.threads.now
-    c.in_ok-tickets-2.tickets c.in_ok-currencies-2.currencies c.in_ok-threads-2.threads c.reading.view_is c.in_ok-tickets-2.ensures.read
+    (limits-read (reading_of c.reading.inside) c.args.reading.now c.in_ok-tickets.tickets.now
+    c.in_ok-currencies.currencies.now c.in_ok-threads.threads.now
+    c.in_ok-tickets-2.tickets c.in_ok-currencies-2.currencies c.in_ok-threads-2.threads c.reading.view_is
+    c.in_ok-tickets-2.ensures.read
     c.in_ok-currencies-2.ensures.read c.in_ok-threads-2.ensures.read)

@@ -16,9 +16,11 @@ loop-preserved c =
     record {
       seed = is;
       range = range;
-      mixed = items ∙ ap (λ xs. xs ++ seed ∷ []) i.mixed ∙ ap (λ x. map mixed_seed (range_with_len 1 n) ++ x ∷ []) is ∙ sym (map-range_with_len_more mixed_seed 1 n (n + 1) (omega arith));
+      mixed = items ∙ ap (λ xs. xs ++ seed ∷ []) i.mixed ∙ ap (λ x. map mixed_seed (range_with_len 1 n) ++ x ∷ []) is
+          ∙ sym (map-range_with_len_more mixed_seed 1 n (n + 1) (omega arith));
       each = record {
         count = ap length items ∙ length-append c.loop.seeds.items (seed ∷ []) ∙ ap (λ k. k + 1) i.each.count;
-        each = subst (λ (xs : List ℕ). All IsSeed xs) (sym items) (All-append IsSeed c.loop.seeds.items (seed ∷ []) i.each.each (All-replicate IsSeed 1 seed range));
+        each = subst (λ (xs : List ℕ). All IsSeed xs) (sym items)
+            (All-append IsSeed c.loop.seeds.items (seed ∷ []) i.each.each (All-replicate IsSeed 1 seed range));
       };
     }

@@ -4,4 +4,7 @@ use Rattle.lot_text.proofs.tokens.separators_in_front.Goals as goal
 pub returns-clause-front : goal.returns-clause-front
 returns-clause-front c =
     let bytes = c.args.bytes.now in
-    count_from_yields_List c.take_while.result _ c.count.ensures.ran (YieldsList-from_take_while _ (separates c.args.separators) (YieldsList-from_slice bytes cc) c.take_while.ensures.closure c.take_while.ensures.done (λ x b q k. search (rules, tests))) ∙ length-prefix_len (separates c.args.separators) bytes
+    count_from_yields_List c.take_while.result _ c.count.ensures.ran
+    (YieldsList-from_take_while _ (separates c.args.separators) (YieldsList-from_slice bytes cc)
+    c.take_while.ensures.closure c.take_while.ensures.done (λ x b q k. search (rules, tests)))
+    ∙ length-prefix_len (separates c.args.separators) bytes

@@ -21,13 +21,18 @@ returns-clause-follows c before edge adds stands together =
     let live = live_of before c.args.active.now in
     let is = c.detach.ensures.kept before edge live adds together.kept in
     let changes = c.detach.ensures.changes before edge live adds together.kept in
-    let one = touched-one w c.touch_listed.new.values c.touch.new.self c.args.ends.to such (inr refl) stands.has c.touch.ensures.right c.touch.ensures.kept c.touch.ensures.only c.touch.ensures.others in
-    let touched = touched-then w c.args.values.now c.touch_listed.new.values c.touch.new.self (IsListed w c.detach.new.self) such such c.touch_listed.ensures.touched one (λ x so. inl so) (λ x so. so) in
-    let listed = listed-more w c.detach.new.self c.touch_listed.new.values c.touch.new.self c.touch.ensures.kept c.touch_listed.ensures.listed in
-    follows-one before w edge c.args.ends (inr adds) stands c.args.active.now c.detach.new.self c.args.values.now c.touch.new.self together is changes touched listed c.touch.ensures.marked
+    let one = touched-one w c.touch_listed.new.values c.touch.new.self c.args.ends.to such
+    (inr refl) stands.has c.touch.ensures.right c.touch.ensures.kept c.touch.ensures.only c.touch.ensures.others in
+    let touched = touched-then w c.args.values.now c.touch_listed.new.values c.touch.new.self
+    (IsListed w c.detach.new.self) such such c.touch_listed.ensures.touched one (λ x so. inl so) (λ x so. so) in
+    let listed = listed-more w c.detach.new.self c.touch_listed.new.values c.touch.new.self c.touch.ensures.kept
+    c.touch_listed.ensures.listed in
+    follows-one before w edge c.args.ends (inr adds) stands c.args.active.now c.detach.new.self c.args.values.now
+    c.touch.new.self together is changes touched listed c.touch.ensures.marked
 
 pub detach-requires-clause-kept : goal.detach-requires-clause-kept
-detach-requires-clause-kept c = let (before, edge, adds, stands, together) = c.requires.before in (before, edge, live_of before c.args.active.now, adds, together.kept)
+detach-requires-clause-kept c = let (before, edge, adds, stands, together) = c.requires.before in
+    (before, edge, live_of before c.args.active.now, adds, together.kept)
 
 pub touch-requires-clause-layout : goal.touch-requires-clause-layout
 touch-requires-clause-layout c =
@@ -41,4 +46,5 @@ pub returns-clause-kept : goal.returns-clause-kept
 returns-clause-kept c node is = c.touch.ensures.kept node (c.touch_listed.ensures.touched.kept node is)
 
 pub returns-clause-others : goal.returns-clause-others
-returns-clause-others c = c.touch.ensures.others ∙ ap (λ (k : Known). record k { stale = c.touch.new.self.stale }) c.touch_listed.ensures.touched.others
+returns-clause-others c = c.touch.ensures.others
+    ∙ ap (λ (k : Known). record k { stale = c.touch.new.self.stale }) c.touch_listed.ensures.touched.others

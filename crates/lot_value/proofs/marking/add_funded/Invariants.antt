@@ -6,5 +6,6 @@ abbrev pub invariant-loop-number : goal.invariant-loop-number
 invariant-loop-number l = record {
   split : HasEachOnce (l.yielded ++ l.number-iterator) (IsIssuedIn l.graph.funding l.fn.currency);
   list : IsStaleList l.stale (node_count (layout_of l.graph));
-  spread : Spreads l.fn.stale l.stale (IsTargetOf (layout_of l.graph) l.graph.funding (map OfTicket l.yielded) (Currency l.fn.currency));
+  spread : Spreads l.fn.stale l.stale
+      (IsTargetOf (layout_of l.graph) l.graph.funding (map OfTicket l.yielded) (Currency l.fn.currency));
 }

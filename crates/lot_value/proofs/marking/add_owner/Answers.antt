@@ -22,5 +22,7 @@ returns-in-Some-clause-spreads c =
     let w = c.args.graph.now in
     let before = (goal.at.returns-in-Some-clause-spreads c).After-list_of in
     let to = Thread c.in-Some.owner in
-    spread-edge (layout_of w) w.funding (Mutex c.args.mutex) to _ _ c.list_of.result (owner-edge w.funding c.args.mutex to (head before))
-    (λ other edge. some-injective to other (sym (head before) ∙ mutex-edge w.funding c.args.mutex other edge)) (place before) c.add.ensures.spreads
+    spread-edge (layout_of w) w.funding (Mutex c.args.mutex) to _ _ c.list_of.result
+    (owner-edge w.funding c.args.mutex to (head before))
+    (λ other edge. some-injective to other (sym (head before) ∙ mutex-edge w.funding c.args.mutex other edge))
+    (place before) c.add.ensures.spreads

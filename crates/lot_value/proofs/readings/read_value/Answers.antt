@@ -3,7 +3,8 @@ use Rattle.lot_value.proofs.readings.read_value.Goals as goal
 
 pub loop-edge-init : goal.loop-edge-init
 loop-edge-init c = record {
-  split = subst (λ (edges : List Edge). HasEachOnce edges (LeadsInto c.args.sources.graph.now.funding c.args.node)) (sym c.into_iter-edge-iterator.ensures.into_iter_gives) c.edges_into-edge-items.ensures.edges;
+  split = subst (λ (edges : List Edge). HasEachOnce edges (LeadsInto c.args.sources.graph.now.funding c.args.node))
+      (sym c.into_iter-edge-iterator.ensures.into_iter_gives) c.edges_into-edge-items.ensures.edges;
   total = λ live are. refl;
   reads = refl;
 }
@@ -17,7 +18,8 @@ read_share-total-requires-clause-sources c =
     let s = c.args.sources in
     let (live, are, small) = c.requires.sources in
     let g = share s.unit s.graph.now.funding live (kept_worth (layout_of s.graph.now) s.values.now) in
-    let part = next-sum s.graph.now.funding c.args.node c.loop-edge.yielded c.loop-edge.edge-iterator c.loop-edge.invariant.split g c.next.new.self c.in-Some.edge c.in-Some.ensures.steps in
+    let part = next-sum s.graph.now.funding c.args.node c.loop-edge.yielded c.loop-edge.edge-iterator
+    c.loop-edge.invariant.split g c.next.new.self c.in-Some.edge c.in-Some.ensures.steps in
     (live, are, omega (arith, part, small))
 
 pub overflow_add-total : goal.overflow_add-total
@@ -25,12 +27,14 @@ overflow_add-total c =
     let s = c.args.sources in
     let (live, are, small) = c.requires.sources in
     let g = share s.unit s.graph.now.funding live (kept_worth (layout_of s.graph.now) s.values.now) in
-    let part = next-sum s.graph.now.funding c.args.node c.loop-edge.yielded c.loop-edge.edge-iterator c.loop-edge.invariant.split g c.next.new.self c.in-Some.edge c.in-Some.ensures.steps in
+    let part = next-sum s.graph.now.funding c.args.node c.loop-edge.yielded c.loop-edge.edge-iterator
+    c.loop-edge.invariant.split g c.next.new.self c.in-Some.edge c.in-Some.ensures.steps in
     omega (arith, part, small, c.loop-edge.invariant.total live are, c.read_share-total.ensures.value live are)
 
 pub loop-edge-preserved : goal.loop-edge-preserved
 loop-edge-preserved c = record {
-  split = each-next (LeadsInto c.args.sources.graph.now.funding c.args.node) c.loop-edge.yielded _ _ c.in-Some.edge c.in-Some.ensures.steps c.loop-edge.invariant.split;
+  split = each-next (LeadsInto c.args.sources.graph.now.funding c.args.node) c.loop-edge.yielded _ _ c.in-Some.edge
+      c.in-Some.ensures.steps c.loop-edge.invariant.split;
   total = λ live are.
       let s = c.args.sources in
       let g = share s.unit s.graph.now.funding live (kept_worth (layout_of s.graph.now) s.values.now) in
@@ -38,18 +42,22 @@ loop-edge-preserved c = record {
   reads =
       let start = c.args.reads.now in
       let done = c.loop-edge.yielded in
-      let one : length done + 1 ≡ length (done ++ c.in-Some.edge ∷ []) = omega (arith, length_push done c.in-Some.edge) in
-      c.read_share-total.ensures.counted ∙ ap (λ n. counted_up n 1) c.loop-edge.invariant.reads ∙ counted-more start (length done) 1 ∙ ap (counted_up start) one;
+      let one : length done + 1 ≡ length (done ++ c.in-Some.edge ∷ []) =
+      omega (arith, length_push done c.in-Some.edge) in
+      c.read_share-total.ensures.counted ∙ ap (λ n. counted_up n 1) c.loop-edge.invariant.reads
+      ∙ counted-more start (length done) 1 ∙ ap (counted_up start) one;
 }
 
 pub returns-clause-value : goal.returns-clause-value
 returns-clause-value c live are =
     let s = c.args.sources in
     let g = share s.unit s.graph.now.funding live (kept_worth (layout_of s.graph.now) s.values.now) in
-    c.loop-edge.invariant.total live are ∙ all-sum s.graph.now.funding c.args.node c.loop-edge.yielded c.loop-edge.edge-iterator c.loop-edge.invariant.split g c.in-None.ensures.steps.0
+    c.loop-edge.invariant.total live are ∙ all-sum s.graph.now.funding c.args.node c.loop-edge.yielded
+    c.loop-edge.edge-iterator c.loop-edge.invariant.split g c.in-None.ensures.steps.0
 
 pub returns-clause-counted : goal.returns-clause-counted
 returns-clause-counted c =
     let s = c.args.sources in
-    let count = all-count s.graph.now.funding c.args.node c.loop-edge.yielded c.loop-edge.edge-iterator c.loop-edge.invariant.split c.in-None.ensures.steps.0 in
+    let count = all-count s.graph.now.funding c.args.node c.loop-edge.yielded c.loop-edge.edge-iterator
+    c.loop-edge.invariant.split c.in-None.ensures.steps.0 in
     c.loop-edge.invariant.reads ∙ ap (counted_up c.args.reads.now) count

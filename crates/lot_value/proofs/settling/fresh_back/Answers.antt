@@ -8,7 +8,8 @@ returns-then-not-raise_sources-clause-fresh c =
     let at = sym c.last.ensures ∙ c.in-Some.is in
     let node_is = c.node_of.ensures ∙ ap (λ (l : Layout). node_of l place) c.layout-layout.ensures.layout in
     let none = OnFalse_at c.if-not-raise_sources.true c.raise_sources.ensures.none in
-    subst (λ (v : NodeLists). IsFreshPlace (layout_of w) w.funding (nodes_of v 0) place) (sym none.0) (fresh-place (layout_of w) w.funding c.loop-place.stale _ place c.node_of.result at node_is none.1)
+    subst (λ (v : NodeLists). IsFreshPlace (layout_of w) w.funding (nodes_of v 0) place) (sym none.0)
+    (fresh-place (layout_of w) w.funding c.loop-place.stale _ place c.node_of.result at node_is none.1)
 
 pub loop-place-smaller : goal.loop-place-smaller
 loop-place-smaller c =
@@ -18,7 +19,8 @@ loop-place-smaller c =
     let node_is = c.node_of.ensures ∙ ap (λ (l : Layout). node_of l place) c.layout-layout.ensures.layout in
     let r = OnTrue_at c.if-not-raise_sources.false c.raise_sources.ensures.raised in
     let from = subst (λ (x : Node). LeadsFromPlace (layout_of w) w.funding r.0 x) node_is r.2 in
-    rank-falls (layout_of w) w.funding c.layout-layout.ensures.fits c.layout-layout.ensures.sound.no_cycle _ _ place r.0 at r.1 from
+    rank-falls (layout_of w) w.funding c.layout-layout.ensures.fits c.layout-layout.ensures.sound.no_cycle _ _ place r.0
+    at r.1 from
 
 pub returns-clause-none : goal.returns-clause-none
 returns-clause-none c = last-none (nodes_of c.loop-place.stale 0) c.last.result c.last.ensures c.in_default.is
@@ -30,7 +32,8 @@ pub node_of-requires : goal.node_of-requires
 node_of-requires c =
     let v = c.loop-place.stale in
     let here = contains-at (nodes_of v 0) _ c.in-Some.place (sym c.last.ensures ∙ c.in-Some.is) in
-    subst (λ (l : Layout). c.in-Some.place < node_count l) (sym c.layout-layout.ensures.layout) (list-within v (node_count (layout_of c.args.graph.now)) c.loop-place.invariant.list c.in-Some.place here)
+    subst (λ (l : Layout). c.in-Some.place < node_count l) (sym c.layout-layout.ensures.layout)
+    (list-within v (node_count (layout_of c.args.graph.now)) c.loop-place.invariant.list c.in-Some.place here)
 
 pub raise_sources-requires : goal.raise_sources-requires
 raise_sources-requires c =
@@ -42,13 +45,15 @@ raise_sources-requires c =
     let node_is = c.node_of.ensures ∙ ap (λ (l : Layout). node_of l place) c.layout-layout.ensures.layout in
     record {
       list = c.loop-place.invariant.list;
-      node = within-node w c.node_of.result (subst (IsNodeWithin (layout_of w)) (sym node_is) (list-back (layout_of w) place low).1);
+      node = within-node w c.node_of.result
+          (subst (IsNodeWithin (layout_of w)) (sym node_is) (list-back (layout_of w) place low).1);
     }
 
 pub loop-place-preserved : goal.loop-place-preserved
 loop-place-preserved c = record {
   list = c.raise_sources.ensures.list;
-  reordered = reordered-then (nodes_of c.args.stale.now 0) (nodes_of c.loop-place.stale 0) (nodes_of c.raise_sources.new.stale 0) c.loop-place.invariant.reordered c.raise_sources.ensures.reordered;
+  reordered = reordered-then (nodes_of c.args.stale.now 0) (nodes_of c.loop-place.stale 0)
+      (nodes_of c.raise_sources.new.stale 0) c.loop-place.invariant.reordered c.raise_sources.ensures.reordered;
 }
 
 pub returns-then-not-raise_sources-clause-list : goal.returns-then-not-raise_sources-clause-list
@@ -56,7 +61,8 @@ returns-then-not-raise_sources-clause-list c = c.raise_sources.ensures.list
 
 pub returns-then-not-raise_sources-clause-reordered : goal.returns-then-not-raise_sources-clause-reordered
 returns-then-not-raise_sources-clause-reordered c =
-    reordered-then (nodes_of c.args.stale.now 0) (nodes_of c.loop-place.stale 0) (nodes_of c.raise_sources.new.stale 0) c.loop-place.invariant.reordered c.raise_sources.ensures.reordered
+    reordered-then (nodes_of c.args.stale.now 0) (nodes_of c.loop-place.stale 0)
+    (nodes_of c.raise_sources.new.stale 0) c.loop-place.invariant.reordered c.raise_sources.ensures.reordered
 
 pub returns-then-not-raise_sources-clause-none : goal.returns-then-not-raise_sources-clause-none
 returns-then-not-raise_sources-clause-none c = tt

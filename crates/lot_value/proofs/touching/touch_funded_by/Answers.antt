@@ -6,4 +6,5 @@ returns-then-is_user_currency-clause-touched c =
     let w = c.args.graph.now in
     let user = c.is_user_currency.ensures.0 c.if-is_user_currency.true in
     let such : Node → Type 0 = λ to. IsUser c.args.node × IsEdge w.funding c.args.node to in
-    touched-then w c.args.values.now c.args.values.now c.touch_targets.new.values such (IsEdge w.funding c.args.node) such (touched-none w c.args.values.now such) c.touch_targets.ensures.touched (λ x so. so) (λ x edge. (user, edge))
+    touched-then w c.args.values.now c.args.values.now c.touch_targets.new.values such (IsEdge w.funding c.args.node)
+    such (touched-none w c.args.values.now such) c.touch_targets.ensures.touched (λ x so. so) (λ x edge. (user, edge))

@@ -8,4 +8,5 @@ returns-clause-nodes c = λ w live kept.
     ∙ ap (λ (l : Layout). map (node_of l) c.args.self.now.adjusted) kept.layout
 
 pub returns-clause-count : goal.returns-clause-count
-returns-clause-count c = walk-short (node_of c.self.inside.layout) c.self.inside.marks.lists 2 c.adjusted.result c.self.invariant.sized.consistent c.adjusted.ensures
+returns-clause-count c = walk-short (node_of c.self.inside.layout) c.self.inside.marks.lists 2 c.adjusted.result
+    c.self.invariant.sized.consistent c.adjusted.ensures

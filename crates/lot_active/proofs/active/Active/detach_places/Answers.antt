@@ -12,7 +12,8 @@ same-amounts c = c.clear.ensures.amounts ∙ ap (λ (v : Activity). v.amounts) c
 
 -- there are as many amounts as nodes
 size : (c : After-clear) → length c.clear.new.self.amounts ≡ (graph_net c.args.graph.now).nodes
-size c = let (before, edge, adds, net, kept) = c.requires.kept in ap (length {A = ℕ}) (same-amounts c) ∙ kept.amounts_length ∙ adds.nodes
+size c = let (before, edge, adds, net, kept) = c.requires.kept in ap (length {A = ℕ}) (same-amounts c)
+    ∙ kept.amounts_length ∙ adds.nodes
 
 -- the node that the edge led from has an amount
 low : (c : After-clear) → c.args.places.from < length c.clear.new.self.amounts
@@ -23,23 +24,30 @@ low c =
 
 -- the marks and amounts agree, with the edge
 local : (c : After-clear) → IsLocal c.requires.kept.0 c.clear.new.self.awake c.clear.new.self.amounts
-local c = let (before, edge, adds, net, kept) = c.requires.kept in local-by before c.args.self.now c.clear.new.self (same-awake c) (same-amounts c) (kept-local before c.args.self.now kept)
+local c = let (before, edge, adds, net, kept) = c.requires.kept in local-by before c.args.self.now c.clear.new.self
+    (same-awake c) (same-amounts c) (kept-local before c.args.self.now kept)
 
 -- the change spreads from that node, where the edge led to one that is active
-spreads : (c : After-clear) (new : Held) → on_at c.clear.new.self c.args.places.to ≡ true → Adjusts c.clear.new.self new c.args.places.from c.args.places.amount false → Spreading (graph_net c.args.graph.now) c.args.places.from false c.clear.new.self new
+spreads : (c : After-clear) (new : Held) → on_at c.clear.new.self c.args.places.to ≡ true
+    → Adjusts c.clear.new.self new c.args.places.from c.args.places.amount false
+    → Spreading (graph_net c.args.graph.now) c.args.places.from false c.clear.new.self new
 spreads c new on adjusts =
     let (before, edge, adds, net, kept) = c.requires.kept in
-    detach-spreads (graph_net c.args.graph.now) before edge c.args.places adds c.clear.new.self c.clear.ensures.empty net new c.clear.ensures.sized (low c) on (local c) adjusts
+    detach-spreads (graph_net c.args.graph.now) before edge c.args.places adds c.clear.new.self c.clear.ensures.empty
+    net new c.clear.ensures.sized (low c) on (local c) adjusts
 
 -- and nothing changes where it didn't
-stays : (c : After-clear) → on_at c.clear.new.self c.args.places.to ≡ false → Spreading (graph_net c.args.graph.now) c.args.places.from false c.clear.new.self c.clear.new.self
-stays c off = let (before, edge, adds, net, kept) = c.requires.kept in detach-none (graph_net c.args.graph.now) before edge c.args.places adds c.clear.new.self c.clear.ensures.empty (local c) off
+stays : (c : After-clear) → on_at c.clear.new.self c.args.places.to ≡ false
+    → Spreading (graph_net c.args.graph.now) c.args.places.from false c.clear.new.self c.clear.new.self
+stays c off = let (before, edge, adds, net, kept) = c.requires.kept in detach-none
+    (graph_net c.args.graph.now) before edge c.args.places adds c.clear.new.self c.clear.ensures.empty (local c) off
 
 pub adjust-requires-clause-may : goal.adjust-requires-clause-may
 adjust-requires-clause-may c =
     let begun = (goal.at.adjust-requires-clause-may c).After-clear in
     let (before, edge, adds, net, kept) = c.requires.kept in
-    detach-may (graph_net c.args.graph.now) before edge c.args.places adds c.clear.new.self c.clear.ensures.empty net c.clear.new.self c.clear.ensures.sized (low begun) (sym c.is_on.ensures.mark ∙ c.if-is_on.true) (local begun)
+    detach-may (graph_net c.args.graph.now) before edge c.args.places adds c.clear.new.self c.clear.ensures.empty net
+    c.clear.new.self c.clear.ensures.sized (low begun) (sym c.is_on.ensures.mark ∙ c.if-is_on.true) (local begun)
 
 pub propagate-requires-clause-spreading : goal.propagate-requires-clause-spreading
 propagate-requires-clause-spreading c =
@@ -50,25 +58,33 @@ returns-then-is_on-clause-kept c =
     let begun = (goal.at.returns-then-is_on-clause-kept c).After-clear in
     let (before, edge, adds, net, kept) = c.requires.kept in
     let start = spreads begun c.adjust.new.self (sym c.is_on.ensures.mark ∙ c.if-is_on.true) c.adjust.ensures.adjusts in
-    end-kept (graph_net c.args.graph.now) c.args.places.from false c.clear.new.self c.propagate.new.self (c.propagate.ensures.spreads _ _ start) c.propagate.ensures.pending c.propagate.ensures.sized c.self.inside.layout
+    end-kept (graph_net c.args.graph.now) c.args.places.from false c.clear.new.self c.propagate.new.self
+    (c.propagate.ensures.spreads _ _ start) c.propagate.ensures.pending c.propagate.ensures.sized c.self.inside.layout
     (net-less (graph_net c.args.graph.now) before edge c.args.places adds net) c.requires.no_cycle
-    (c.propagate.ensures.size ∙ adjust-length c.clear.new.self c.adjust.new.self c.args.places.from c.args.places.amount false c.adjust.ensures.adjusts ∙ size begun)
+    (c.propagate.ensures.size ∙ adjust-length c.clear.new.self c.adjust.new.self c.args.places.from c.args.places.amount
+    false c.adjust.ensures.adjusts ∙ size begun)
 
 pub returns-then-is_on-clause-changes : goal.returns-then-is_on-clause-changes
 returns-then-is_on-clause-changes c =
     let begun = (goal.at.returns-then-is_on-clause-changes c).After-clear in
     let start = spreads begun c.adjust.new.self (sym c.is_on.ensures.mark ∙ c.if-is_on.true) c.adjust.ensures.adjusts in
-    end-changes_from (graph_net c.args.graph.now) c.args.places.from false c.clear.new.self c.propagate.new.self (c.propagate.ensures.spreads _ _ start) c.propagate.ensures.pending c.propagate.ensures.sized c.self.inside.layout c.args.self.now (same-awake begun) (same-amounts begun)
+    end-changes_from (graph_net c.args.graph.now) c.args.places.from false c.clear.new.self c.propagate.new.self
+    (c.propagate.ensures.spreads _ _ start) c.propagate.ensures.pending c.propagate.ensures.sized c.self.inside.layout
+    c.args.self.now (same-awake begun) (same-amounts begun)
 
 pub returns-else-is_on-clause-kept : goal.returns-else-is_on-clause-kept
 returns-else-is_on-clause-kept c =
     let begun = (goal.at.returns-else-is_on-clause-kept c).After-clear in
     let (before, edge, adds, net, kept) = c.requires.kept in
     let same = stays begun (sym c.is_on.ensures.mark ∙ c.if-is_on.false) in
-    end-kept (graph_net c.args.graph.now) c.args.places.from false c.clear.new.self c.clear.new.self same (c.clear.ensures.empty 0) c.clear.ensures.sized c.self.inside.layout (net-less (graph_net c.args.graph.now) before edge c.args.places adds net) c.requires.no_cycle (size begun)
+    end-kept (graph_net c.args.graph.now) c.args.places.from false c.clear.new.self c.clear.new.self same
+    (c.clear.ensures.empty 0) c.clear.ensures.sized c.self.inside.layout
+    (net-less (graph_net c.args.graph.now) before edge c.args.places adds net) c.requires.no_cycle (size begun)
 
 pub returns-else-is_on-clause-changes : goal.returns-else-is_on-clause-changes
 returns-else-is_on-clause-changes c =
     let begun = (goal.at.returns-else-is_on-clause-changes c).After-clear in
     let same = stays begun (sym c.is_on.ensures.mark ∙ c.if-is_on.false) in
-    end-changes_from (graph_net c.args.graph.now) c.args.places.from false c.clear.new.self c.clear.new.self same (c.clear.ensures.empty 0) c.clear.ensures.sized c.self.inside.layout c.args.self.now (same-awake begun) (same-amounts begun)
+    end-changes_from (graph_net c.args.graph.now) c.args.places.from false c.clear.new.self c.clear.new.self same
+    (c.clear.ensures.empty 0) c.clear.ensures.sized c.self.inside.layout c.args.self.now (same-awake begun)
+    (same-amounts begun)

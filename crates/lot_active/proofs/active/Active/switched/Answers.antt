@@ -8,4 +8,5 @@ returns-clause-nodes c = λ w live kept.
     ∙ ap (λ (l : Layout). map (node_of l) c.args.self.now.switched) kept.layout
 
 pub returns-clause-count : goal.returns-clause-count
-returns-clause-count c = walk-short (node_of c.self.inside.layout) c.self.inside.marks.lists 1 c.switched.result c.self.invariant.sized.consistent c.switched.ensures
+returns-clause-count c = walk-short (node_of c.self.inside.layout) c.self.inside.marks.lists 1 c.switched.result
+    c.self.invariant.sized.consistent c.switched.ensures

@@ -21,4 +21,5 @@ quiet along (leaves L l S s r₀) q = λ d. q (along d)
 pub send : IsSend the_row
 send =
     let all : AllSend (fields the_type) = (search sendable, (global.the_field_send, tt)) in
-    owning_send the_type all (λ d. owned d.alloc d.at d.kernel) (λ k. quiet (to the_type) (exits_of k (fields the_type)) ((struct_send (shape the_type) all).leaving k))
+    owning_send the_type all (λ d. owned d.alloc d.at d.kernel)
+    (λ k. quiet (to the_type) (exits_of k (fields the_type)) ((struct_send (shape the_type) all).leaving k))

@@ -18,4 +18,5 @@ shared p (Some k) κ = ((λ _. tt), (inside p, kernel_sync.shared k (block_of p)
 pub send : IsSend the_row
 send =
     let all : AllSend (fields the_type) = (search sendable, tt) in
-    owning_send the_type all (λ d. (tt, shared d.at d.kernel (d.life ∷ []))) (λ k. quiet (to the_type) (exits_of k (fields the_type)) ((struct_send (shape the_type) all).leaving k))
+    owning_send the_type all (λ d. (tt, shared d.at d.kernel (d.life ∷ [])))
+    (λ k. quiet (to the_type) (exits_of k (fields the_type)) ((struct_send (shape the_type) all).leaving k))

@@ -13,12 +13,15 @@ returns-in-Thread-clause-awaits c turns first made (by, noted, name, stopped) =
 pub returns-in-Currency-clause-awaits : goal.returns-in-Currency-clause-awaits
 returns-in-Currency-clause-awaits c turns first made (by, noted, name, stopped) =
     let above = c.search.new.above in
-    let room : HasLayoutFor c.args.program.now above = subst (λ (p : Program). HasLayoutFor p above) c.requires.program c.search.ensures.room in
+    let room : HasLayoutFor c.args.program.now above =
+    subst (λ (p : Program). HasLayoutFor p above) c.requires.program c.search.ensures.room in
     let layout = ap (λ (l : Layout). l.currencies) c.search.ensures.room in
-    let within : c.currency_count-self.result ≤ above.layout.currencies + 1 = omega (arith, c.currency_count-self.ensures.within, layout) in (
+    let within : c.currency_count-self.result ≤ above.layout.currencies + 1 =
+    omega (arith, c.currency_count-self.ensures.within, layout) in (
       by,
       record { room = room; stretches_are = noted.stretches_are; few = noted.few; early = noted.early; commands_are = noted.commands_are },
-      subst (λ what. HasSearched what (world_of c.args.system.now).state c.args.actor above c.currency_count-self.result) (sym c.in-Currency.is ∙ by)
+      subst (λ what. HasSearched what (world_of c.args.system.now).state c.args.actor above
+          c.currency_count-self.result) (sym c.in-Currency.is ∙ by)
           (record { given = c.currency_count-self.ensures.count; within = within; found = c.search.ensures.found }),
       name,
       stopped,

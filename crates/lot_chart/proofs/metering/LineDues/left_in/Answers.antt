@@ -14,13 +14,17 @@ loop-gauge-preserved c =
     let grown = λ (gauge : Gauge). grown_in gauge c.args.sample in
     let there = subst (λ (gs : List Gauge). index < length gs) same c.loop-gauge-test.true in
     let is : item ≡ get_or gauges index item = c.gauge-item.is ∙ ap (λ (gs : List Gauge). get_or gs index item) same in
-    let more = sum_by_more grown gauges index item there ∙ ap (λ (g : Gauge). sum_by grown (take index gauges) + grown g) (sym is) in
+    let more = sum_by_more grown gauges index item there
+    ∙ ap (λ (g : Gauge). sum_by grown (take index gauges) + grown g) (sym is) in
     c.saturating_sub-left.ensures ∙ ap (λ n. c.loop-gauge.left - n) c.grown_in.ensures
-    ∙ less (grown_in c.args.self.now.live c.args.sample * tick_parts) (sum_by grown (take index gauges)) (grown item) (sum_by grown (take (index + 1) gauges)) c.loop-gauge.left c.loop-gauge.invariant more
+    ∙ less (grown_in c.args.self.now.live c.args.sample * tick_parts) (sum_by grown (take index gauges)) (grown item)
+    (sum_by grown (take (index + 1) gauges)) c.loop-gauge.left c.loop-gauge.invariant more
 
 pub returns-clause-left : goal.returns-clause-left
 returns-clause-left c =
     let gauges = c.args.self.now.threads.items in
-    let past = subst (λ (gs : List Gauge). length gs ≤ c.loop-gauge.gauge-index) c.deref-gauge-items.ensures.value c.loop-gauge-test.false in
+    let past = subst (λ (gs : List Gauge). length gs ≤ c.loop-gauge.gauge-index) c.deref-gauge-items.ensures.value
+    c.loop-gauge-test.false in
     c.loop-gauge.invariant
-    ∙ ap (λ (gs : List Gauge). grown_in c.args.self.now.live c.args.sample * tick_parts - sum_by (λ (gauge : Gauge). grown_in gauge c.args.sample) gs) (take_all c.loop-gauge.gauge-index gauges past)
+    ∙ ap (λ (gs : List Gauge). grown_in c.args.self.now.live c.args.sample * tick_parts - sum_by
+    (λ (gauge : Gauge). grown_in gauge c.args.sample) gs) (take_all c.loop-gauge.gauge-index gauges past)

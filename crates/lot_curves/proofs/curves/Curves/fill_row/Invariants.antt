@@ -5,6 +5,7 @@ use Rattle.lot_curves.proofs.curves.Curves.fill_row.Given as goal
 abbrev pub invariant-loop-stretch : goal.invariant-loop-stretch
 invariant-loop-stretch l = record {
   places : length l.row ≡ length l.initial.self.names;
-  had : (k : ℕ) → k < length l.row → get_or l.row k 0 ≡ had_in l.measure l.window l.tick (stretches_of (k + 1) (take l.stretch-index l.self.stretches));
+  had : (k : ℕ) → k < length l.row → get_or l.row k 0
+      ≡ had_in l.measure l.window l.tick (stretches_of (k + 1) (take l.stretch-index l.self.stretches));
   small : (k : ℕ) → k < length l.row → get_or l.row k 0 ≤ l.stretch-index * 2 ^ 32;
 }

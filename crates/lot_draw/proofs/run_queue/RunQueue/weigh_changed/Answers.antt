@@ -10,14 +10,19 @@ loop-place-preserved c =
     let place = c.in-Some.place in
     let weight = weight_among old.quantum old.competitors (λ t. value_in known (Thread t)) (place + 1) in
     let is : new ≡ record old { weights = set old.weights place weight; changed = remove old.changed 0 } =
-    c.weigh.ensures.others ∙ ap (λ (ws : List ℕ). record old { weights = ws; changed = new.changed }) c.weigh.ensures.weight
-    ∙ ap (λ (xs : List ℕ). record old { weights = set old.weights place weight; changed = xs }) c.weigh.ensures.changed in
+    c.weigh.ensures.others
+    ∙ ap (λ (ws : List ℕ). record old { weights = ws; changed = new.changed }) c.weigh.ensures.weight
+    ∙ ap
+    (λ (xs : List ℕ). record old { weights = set old.weights place weight; changed = xs }) c.weigh.ensures.changed in
     record {
-      queue = c.weigh.ensures.others ∙ ap (λ (q : Queued). record q { weights = new.weights; changed = new.changed }) inv.queue;
-      weights = subst (λ (q : Queued). AreWeights q known) (sym is) (weights-weighed old known place c.in-Some.ensures.places c.in-Some.ensures.place (sym c.in-Some.ensures.first) inv.weights);
+      queue = c.weigh.ensures.others
+          ∙ ap (λ (q : Queued). record q { weights = new.weights; changed = new.changed }) inv.queue;
+      weights = subst (λ (q : Queued). AreWeights q known) (sym is) (weights-weighed old known place
+          c.in-Some.ensures.places c.in-Some.ensures.place (sym c.in-Some.ensures.first) inv.weights);
     }
 
 pub returns-clause-queue : goal.returns-clause-queue
 returns-clause-queue c =
     let now = c.loop-place.self in
-    c.loop-place.invariant.queue ∙ ap (λ (xs : List ℕ). record c.args.self.now { weights = now.weights; changed = xs }) (first-none now.changed (sym c.first_changed.ensures.first ∙ c.in_default.is))
+    c.loop-place.invariant.queue ∙ ap (λ (xs : List ℕ). record c.args.self.now { weights = now.weights; changed = xs })
+    (first-none now.changed (sym c.first_changed.ensures.first ∙ c.in_default.is))

@@ -17,5 +17,6 @@ pub returns-clause-items : goal.returns-clause-items
 returns-clause-items c =
     let s = c.self.inside in
     ap₂ (actors_from s.processors) c.push.ensures.items c.push-2.ensures.items
-    ∙ wake-more s.processors (s.processors + 1) c.args.thread s.actors.items s.woken.items (omega arith) c.self.invariant.wakes
+    ∙ wake-more s.processors (s.processors + 1) c.args.thread s.actors.items s.woken.items
+    (omega arith) c.self.invariant.wakes
     ∙ ap (λ (h : KeptHistory). h.items ++ (h.size.processors + c.args.thread) ∷ []) c.self.view_is

@@ -5,4 +5,5 @@ pub returns : goal.returns
 returns c =
     let s = c.self.inside in
     let i = c.self.invariant in
-    rw (← c.self.view_is) (IfOk-weaker c.above.result (HasLayoutOf s.kernel.state) (HasLayoutFor s.program) (layout-for s.program s.history.items s.kernel.state i.held.state i.held.kept.limits) c.above.ensures)
+    rw (← c.self.view_is) (IfOk-weaker c.above.result (HasLayoutOf s.kernel.state) (HasLayoutFor s.program)
+    (layout-for s.program s.history.items s.kernel.state i.held.state i.held.kept.limits) c.above.ensures)

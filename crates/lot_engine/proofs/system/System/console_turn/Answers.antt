@@ -9,14 +9,21 @@ follow_command-requires-clause-made c =
     let i = c.self.invariant in
     let left = rw (← c.self.view_is) at c.requires.left in
     let w = system_run s.program s.history.items in
-    let named : c.next_name-name.result ≡ next_name w = c.next_name-name.ensures ∙ ap (λ (x : Seen). next_name (world_of x)) (sym c.self.view_is) in
-    let resolves : c.resolve.result ≡ resolved s.tickets (next_name w) c.at-command.result = c.resolve.ensures ∙ ap (λ n. resolved s.tickets n c.at-command.result) named in
-    let below = command-left s.program w s.kernel.state s.places.items s.generators.items s.tickets s.spent i.held left in
-    let order : IsInOrder s.kernel.state = subst IsInOrder (sym i.held.state) (run-in-order s.program s.history.items i.program.limits) in
-    let next = command-next s.program w s.kernel.state s.places.items s.generators.items s.tickets s.spent i.held c.commands.result.now c.at-command.result below c.commands.ensures.commands c.at-command.ensures in (
+    let named : c.next_name-name.result ≡ next_name w = c.next_name-name.ensures
+    ∙ ap (λ (x : Seen). next_name (world_of x)) (sym c.self.view_is) in
+    let resolves : c.resolve.result ≡ resolved s.tickets (next_name w) c.at-command.result = c.resolve.ensures
+    ∙ ap (λ n. resolved s.tickets n c.at-command.result) named in
+    let below =
+    command-left s.program w s.kernel.state s.places.items s.generators.items s.tickets s.spent i.held left in
+    let order : IsInOrder s.kernel.state =
+    subst IsInOrder (sym i.held.state) (run-in-order s.program s.history.items i.program.limits) in
+    let next = command-next s.program w s.kernel.state s.places.items s.generators.items s.tickets s.spent i.held
+    c.commands.result.now c.at-command.result below c.commands.ensures.commands c.at-command.ensures in (
       s.kernel.state,
       w.contexts,
-      command-made s.program w s.kernel.state s.places.items s.generators.items s.tickets s.spent i.held c.at-command.result _ next c.resolve.result resolves c.answer.new.self.state c.answer.new.reply c.answer.ensures.state c.answer.ensures.reply order,
+      command-made s.program w s.kernel.state s.places.items s.generators.items s.tickets s.spent i.held
+          c.at-command.result _ next c.resolve.result resolves c.answer.new.self.state c.answer.new.reply
+          c.answer.ensures.state c.answer.ensures.reply order,
       i.held.places_at,
       ap (λ l. l.scripts) i.held.kept.limits ∙ sym i.program.script_count,
       i.held.kept.count,
@@ -27,7 +34,8 @@ unfolding follow_command-requires-clause-made
 follow_command-requires-clause-room c =
     let i = c.self.invariant in
     let made = follow_command-requires-clause-made c in
-    let kept = kept-made c.self.inside.program c.self.inside.kernel.state c.answer.new.self.state c.answer.new.reply i.held.kept made.2 in
+    let kept = kept-made c.self.inside.program c.self.inside.kernel.state c.answer.new.self.state c.answer.new.reply
+    i.held.kept made.2 in
     omega (arith, ap (λ l. l.threads) kept.limits, i.threads)
 
 pub count_turn-requires-clause-bounded : goal.count_turn-requires-clause-bounded
@@ -42,22 +50,38 @@ invariant_of-self c =
     let i = c.self.invariant in
     let requires = rw (← c.self.view_is) at c.requires in
     let w = system_run s.program s.history.items in
-    let named : c.next_name-name.result ≡ next_name w = c.next_name-name.ensures ∙ ap (λ (x : Seen). next_name (world_of x)) (sym c.self.view_is) in
-    let resolves : c.resolve.result ≡ resolved s.tickets (next_name w) c.at-command.result = c.resolve.ensures ∙ ap (λ n. resolved s.tickets n c.at-command.result) named in
-    let below = command-left s.program w s.kernel.state s.places.items s.generators.items s.tickets s.spent i.held requires.left in
-    let order : IsInOrder s.kernel.state = subst IsInOrder (sym i.held.state) (run-in-order s.program s.history.items i.program.limits) in
-    let next = command-next s.program w s.kernel.state s.places.items s.generators.items s.tickets s.spent i.held c.commands.result.now c.at-command.result below c.commands.ensures.commands c.at-command.ensures in
-    let made = command-made s.program w s.kernel.state s.places.items s.generators.items s.tickets s.spent i.held c.at-command.result _ next c.resolve.result resolves c.answer.new.self.state c.answer.new.reply c.answer.ensures.state c.answer.ensures.reply order in
+    let named : c.next_name-name.result ≡ next_name w = c.next_name-name.ensures
+    ∙ ap (λ (x : Seen). next_name (world_of x)) (sym c.self.view_is) in
+    let resolves : c.resolve.result ≡ resolved s.tickets (next_name w) c.at-command.result = c.resolve.ensures
+    ∙ ap (λ n. resolved s.tickets n c.at-command.result) named in
+    let below =
+    command-left s.program w s.kernel.state s.places.items s.generators.items s.tickets s.spent i.held requires.left in
+    let order : IsInOrder s.kernel.state =
+    subst IsInOrder (sym i.held.state) (run-in-order s.program s.history.items i.program.limits) in
+    let next = command-next s.program w s.kernel.state s.places.items s.generators.items s.tickets s.spent i.held
+    c.commands.result.now c.at-command.result below c.commands.ensures.commands c.at-command.ensures in
+    let made = command-made s.program w s.kernel.state s.places.items s.generators.items s.tickets s.spent i.held
+    c.at-command.result _ next c.resolve.result resolves c.answer.new.self.state c.answer.new.reply
+    c.answer.ensures.state c.answer.ensures.reply order in
     let held =
-    command-held s.program w s.kernel.state s.places.items s.generators.items s.tickets s.spent i.held c.at-command.result _ next c.resolve.result resolves c.answer.new.self.state c.answer.new.reply c.answer.ensures.state c.answer.ensures.reply order refl
+    command-held s.program w s.kernel.state s.places.items s.generators.items s.tickets s.spent i.held
+    c.at-command.result _ next c.resolve.result resolves c.answer.new.self.state c.answer.new.reply
+    c.answer.ensures.state c.answer.ensures.reply order refl
     c.follow_command.new.places.items (c.follow_command.ensures.at s.kernel.state w.contexts made i.held.places_at)
-    c.follow.new.self (c.follow.ensures c.resolve.result refl ∙ ap (λ n. tickets_after s.tickets n c.resolve.result c.answer.new.reply) named) in
+    c.follow.new.self (c.follow.ensures c.resolve.result refl
+    ∙ ap (λ n. tickets_after s.tickets n c.resolve.result c.answer.new.reply) named) in
     let answer =
-    command-answer s.program w s.kernel.state s.places.items s.generators.items s.tickets s.spent i.held c.at-command.result _ next c.resolve.result resolves c.answer.new.self.state c.answer.new.reply c.answer.ensures.state c.answer.ensures.reply in
-    rw c.push.ensures.items (console-more s.program s.room s.is_wide s.has_timer s.history.items s.kernel.state s.places.items s.generators.items _ s.tickets s.spent s.counts.items _ s.total _ _ i requires.room (event.Command c.resolve.result) c.answer.new.reply answer
+    command-answer s.program w s.kernel.state s.places.items s.generators.items s.tickets s.spent i.held
+    c.at-command.result _ next c.resolve.result resolves c.answer.new.self.state c.answer.new.reply
+    c.answer.ensures.state c.answer.ensures.reply in
+    rw c.push.ensures.items (console-more s.program s.room s.is_wide s.has_timer s.history.items s.kernel.state
+    s.places.items s.generators.items _ s.tickets s.spent s.counts.items _ s.total _ _ i requires.room
+    (event.Command c.resolve.result) c.answer.new.reply answer
     below c.answer.new.self.state c.follow_command.new.places.items c.follow.new.self held
-    c.count_turn.new.counts.items (c.count_turn.ensures.exact (turns_made s.program s.history.items) (length s.history.items) (event.Command c.resolve.result) i.each_counted) _ c.count_turn.ensures.count
-    _ c.count_turn.ensures.total (c.count_turn.ensures.total_small (length s.history.items) i.total_counted.small) _ _ c.follow_command.ensures.room c.push.ensures.size)
+    c.count_turn.new.counts.items (c.count_turn.ensures.exact (turns_made s.program s.history.items)
+    (length s.history.items) (event.Command c.resolve.result) i.each_counted) _ c.count_turn.ensures.count
+    _ c.count_turn.ensures.total (c.count_turn.ensures.total_small (length s.history.items) i.total_counted.small) _ _
+    c.follow_command.ensures.room c.push.ensures.size)
 
 pub returns-clause-answer : goal.returns-clause-answer
 returns-clause-answer c =
@@ -65,10 +89,18 @@ returns-clause-answer c =
     let i = c.self.invariant in
     let requires = rw (← c.self.view_is) at c.requires in
     let w = system_run s.program s.history.items in
-    let named : c.next_name-name.result ≡ next_name w = c.next_name-name.ensures ∙ ap (λ (x : Seen). next_name (world_of x)) (sym c.self.view_is) in
-    let resolves : c.resolve.result ≡ resolved s.tickets (next_name w) c.at-command.result = c.resolve.ensures ∙ ap (λ n. resolved s.tickets n c.at-command.result) named in
-    let below = command-left s.program w s.kernel.state s.places.items s.generators.items s.tickets s.spent i.held requires.left in
-    let order : IsInOrder s.kernel.state = subst IsInOrder (sym i.held.state) (run-in-order s.program s.history.items i.program.limits) in
-    let next = command-next s.program w s.kernel.state s.places.items s.generators.items s.tickets s.spent i.held c.commands.result.now c.at-command.result below c.commands.ensures.commands c.at-command.ensures in
-    subst (λ (x : Seen). (system_turn x.setting.program (world_of x) 0).answer ≡ Answered (event.Command c.resolve.result) c.answer.new.reply) c.self.view_is
-    (command-answer s.program w s.kernel.state s.places.items s.generators.items s.tickets s.spent i.held c.at-command.result _ next c.resolve.result resolves c.answer.new.self.state c.answer.new.reply c.answer.ensures.state c.answer.ensures.reply)
+    let named : c.next_name-name.result ≡ next_name w = c.next_name-name.ensures
+    ∙ ap (λ (x : Seen). next_name (world_of x)) (sym c.self.view_is) in
+    let resolves : c.resolve.result ≡ resolved s.tickets (next_name w) c.at-command.result = c.resolve.ensures
+    ∙ ap (λ n. resolved s.tickets n c.at-command.result) named in
+    let below =
+    command-left s.program w s.kernel.state s.places.items s.generators.items s.tickets s.spent i.held requires.left in
+    let order : IsInOrder s.kernel.state =
+    subst IsInOrder (sym i.held.state) (run-in-order s.program s.history.items i.program.limits) in
+    let next = command-next s.program w s.kernel.state s.places.items s.generators.items s.tickets s.spent i.held
+    c.commands.result.now c.at-command.result below c.commands.ensures.commands c.at-command.ensures in
+    subst (λ (x : Seen). (system_turn x.setting.program (world_of x) 0).answer
+    ≡ Answered (event.Command c.resolve.result) c.answer.new.reply) c.self.view_is
+    (command-answer s.program w s.kernel.state s.places.items s.generators.items s.tickets s.spent i.held
+    c.at-command.result _ next c.resolve.result resolves c.answer.new.self.state c.answer.new.reply
+    c.answer.ensures.state c.answer.ensures.reply)

@@ -5,7 +5,8 @@ use Rattle.lot_engine.proofs.system.System.history.Goals as goal
 pub returns-clause-shown : goal.returns-clause-shown
 returns-clause-shown c =
     let s = c.self.inside in
-    c.actors.ensures ∙ ap (λ p. map (λ actor. min actor (p + 1)) s.history.items) c.self.invariant.processors ∙ ap shown_history c.self.view_is
+    c.actors.ensures ∙ ap (λ p. map (λ actor. min actor (p + 1)) s.history.items) c.self.invariant.processors
+    ∙ ap shown_history c.self.view_is
 
 pub returns-clause-items : goal.returns-clause-items
 returns-clause-items c untimed =

@@ -12,12 +12,16 @@ invariant_of-result c =
     let opened = c.in_ok-places.ensures in
     let none : history ≡ [] = opened.history.none in
     let copied : program ≡ c.args.program.now = c.in_ok-copy.ensures.program in
-    let limits : sizes_of c.limits.result ≡ program.limits = c.limits.ensures.limits ∙ ap (λ p. p.limits) (sym copied) in
+    let limits : sizes_of c.limits.result ≡ program.limits = c.limits.ensures.limits
+    ∙ ap (λ p. p.limits) (sym copied) in
     let is : state ≡ opening program.limits = ap (λ k. k.state) c.in_ok-kernel.ensures.opening ∙ ap opening limits in
     let seeded : generators ≡ program.seeds = c.in_ok-copy.ensures.seeds ∙ ap (λ p. p.seeds) (sym copied) in
-    let unnamed : tickets ≡ replicate program.ticket_names 0 = c.in_ok-copy.ensures.tickets ∙ ap (λ p. replicate p.ticket_names 0) (sym copied) in
-    let counted = subst (λ h. IsCount (turns_made program h) (length h) (record { turns = 0; quanta = 0; idles = 0; ticks = 0 })) (sym none) nothing-counted in
-    let each = subst (λ h. AreCounts (turns_made program h) (length h) c.in_ok-places.counts.items) (sym none) opened.none in
+    let unnamed : tickets ≡ replicate program.ticket_names 0 = c.in_ok-copy.ensures.tickets
+    ∙ ap (λ p. replicate p.ticket_names 0) (sym copied) in
+    let counted = subst (λ h. IsCount (turns_made program h) (length h)
+    (record { turns = 0; quanta = 0; idles = 0; ticks = 0 })) (sym none) nothing-counted in
+    let each =
+    subst (λ h. AreCounts (turns_made program h) (length h) c.in_ok-places.counts.items) (sym none) opened.none in
     record {
       program = search (rules, copied);
       legal = λ untimed. search (rules, none);

@@ -10,7 +10,8 @@ returns-then-not-matches_work-clause-err c =
     let stale : IsFresh seen c.args.actor given → ⊥ =
     λ fresh.
     let matches = fresh-matches seen c.args.actor work given c.kept_work-work.ensures fresh in
-    let yes : c.matches_work.result ≡ true = c.matches_work.ensures.1 (subst (λ (x : Seen). Matches x.setting.program work given) (sym c.self.view_is) matches) in
+    let yes : c.matches_work.result ≡ true = c.matches_work.ensures.1
+    (subst (λ (x : Seen). Matches x.setting.program work given) (sym c.self.view_is) matches) in
     let no = c.if-not-matches_work.true in
     cc in
     (stale, refl)

@@ -11,16 +11,21 @@ loop-number-preserved c =
     let ticket = c.args.ticket in
     let number : ℕ = get_or now i 0 in
     let long : length now ≡ length numbers = c.loop-number.auto.number-items in
-    let there = get_or_from_slice_get now i number number (slice_get-get_or now i 0 (omega (arith, c.loop-number-test.true, long))) in
-    let passed : set now i (if number == ticket then 0 else number) ≡ without_ticket ticket (take (i + 1) numbers) ++ drop (i + 1) numbers =
-    map_over_more (λ t. if t == ticket then 0 else t) numbers now i number c.loop-number-test.true c.loop-number.invariant (sym there) in
+    let there = get_or_from_slice_get now i number number
+    (slice_get-get_or now i 0 (omega (arith, c.loop-number-test.true, long))) in
+    let passed : set now i (if number == ticket then 0 else number) ≡ without_ticket ticket (take (i + 1) numbers)
+    ++ drop (i + 1) numbers =
+    map_over_more (λ t. if t == ticket then 0 else t) numbers now i number c.loop-number-test.true
+    c.loop-number.invariant (sym there) in
     elim c.if-from-ticket.branch [
       | then-from-ticket w ↦
           let its : number ≡ ticket = sym c.from.ensures ∙ w.if-from-ticket.true in
-          let written : set now i 0 ≡ set now i (if number == ticket then 0 else number) = rw (eq-eqb number ticket its) refl in
+          let written : set now i 0 ≡ set now i (if number == ticket then 0 else number) =
+          rw (eq-eqb number ticket its) refl in
           w.number-items-is ∙ written ∙ passed
       | else-from-ticket w ↦
-          let other : (number == ticket) ≡ false = ne_eqb number ticket (λ e. w.if-from-ticket.false (c.from.ensures ∙ e)) in
+          let other : (number == ticket) ≡ false =
+          ne_eqb number ticket (λ e. w.if-from-ticket.false (c.from.ensures ∙ e)) in
           let kept : set now i number ≡ set now i (if number == ticket then 0 else number) = rw other refl in
           w.number-items-is ∙ kept ∙ passed
     ]

@@ -16,10 +16,14 @@ returns-clause-ok g c =
     let mid = contents c.args.self.now.writer.now.inner in
     let new = contents c.put_explained.new.writer.inner in
     let lots = c.args.self.now.lots.now in
-    put-ok (explained_made c.args.self.now.detail) mid new c.args.self.now.page c.put_explained.new.page c.put_explained.new.writer.failed (λ made. IsExplained c.args.system.now c.args.turn.now lots made) c.put_explained.result c.put_explained.ensures.text
+    put-ok (explained_made c.args.self.now.detail) mid new c.args.self.now.page c.put_explained.new.page
+    c.put_explained.new.writer.failed (λ made. IsExplained c.args.system.now c.args.turn.now lots made)
+    c.put_explained.result c.put_explained.ensures.text
     (λ here turns made first just awaits.
-    let is = here made (just-explained c.args.program.now c.args.system.now c.args.turn.now lots turns made just awaits.4) in
-    let text = subst (λ d. IsPut mid new c.args.self.now.page c.put_explained.new.page (explained_made d made)) awaits.5 is.1 in
+    let is =
+    here made (just-explained c.args.program.now c.args.system.now c.args.turn.now lots turns made just awaits.4) in
+    let text =
+    subst (λ d. IsPut mid new c.args.self.now.page c.put_explained.new.page (explained_made d made)) awaits.5 is.1 in
     (awaits.0, awaits.1, is.0, texts-more (explained_made first.detail) (contents first.writer.now.inner) mid new c.args.self.now.page turns made awaits.3 c.put_explained.new.page text, awaits.5, awaits.6, c.put_explained.ensures.stopped ∙ awaits.7))
 
 pub returns-clause-err : goal.returns-clause-err
@@ -28,8 +32,11 @@ returns-clause-err g c =
     let mid = contents c.args.self.now.writer.now.inner in
     let new = contents c.put_explained.new.writer.inner in
     let lots = c.args.self.now.lots.now in
-    put-err (explained_made c.args.self.now.detail) mid new c.args.self.now.page c.put_explained.new.page c.put_explained.new.writer.failed (λ made. IsExplained c.args.system.now c.args.turn.now lots made) c.put_explained.result c.put_explained.ensures.text
+    put-err (explained_made c.args.self.now.detail) mid new c.args.self.now.page c.put_explained.new.page
+    c.put_explained.new.writer.failed (λ made. IsExplained c.args.system.now c.args.turn.now lots made)
+    c.put_explained.result c.put_explained.ensures.text
     (λ fault here turns made first just awaits.
-    let is = here made (just-explained c.args.program.now c.args.system.now c.args.turn.now lots turns made just awaits.4) in
+    let is =
+    here made (just-explained c.args.program.now c.args.system.now c.args.turn.now lots turns made just awaits.4) in
     let text = subst (λ d. Begins mid new (c.args.self.now.page ++ explained_made d made)) awaits.5 is.2 in
     (awaits.0, is.0, is.1, texts-stop (explained_made first.detail) (contents first.writer.now.inner) mid new c.args.self.now.page turns made awaits.3 text))

@@ -12,4 +12,6 @@ returns-clause-fits c = graph-fits _ (invariant_of-self c)
 
 pub index_mut-requires : goal.index_mut-requires
 index_mut-requires c =
-    let low = slice_get_within c.self.inside.currencies.items c.args.currency false (subst (λ (v : LimitedFunding). slice_get v.funding.currencies c.args.currency ≡ Some false) (sym c.self.view_is) c.requires.gap) in omega (arith, low)
+    let low = slice_get_within c.self.inside.currencies.items c.args.currency false (subst (λ (v : LimitedFunding).
+    slice_get v.funding.currencies c.args.currency ≡ Some false) (sym c.self.view_is) c.requires.gap) in
+    omega (arith, low)

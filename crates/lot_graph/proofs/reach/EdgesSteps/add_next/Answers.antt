@@ -2,10 +2,12 @@ use Rattle.lot_graph.proofs.Lemmas.{IsEdge, IsNext, OfLender, OfMutex, Spreads, 
 use Rattle.lot_graph.proofs.reach.EdgesSteps.add_next.Goals as goal
 
 pub add_node-requires-clause-within : goal.add_node-requires-clause-within
-add_node-requires-clause-within c = head-within c.args.layout (funding_of c.args.self.now) (OfLender c.in-Thread.thread) c.lend_head.result c.requires.fit.heads c.lend_head.ensures
+add_node-requires-clause-within c = head-within c.args.layout (funding_of c.args.self.now)
+    (OfLender c.in-Thread.thread) c.lend_head.result c.requires.fit.heads c.lend_head.ensures
 
 pub add_node-requires-in-Mutex-clause-within : goal.add_node-requires-in-Mutex-clause-within
-add_node-requires-in-Mutex-clause-within c = head-within c.args.layout (funding_of c.args.self.now) (OfMutex c.in-Mutex.mutex) c.owner_head.result c.requires.fit.heads c.owner_head.ensures
+add_node-requires-in-Mutex-clause-within c = head-within c.args.layout (funding_of c.args.self.now)
+    (OfMutex c.in-Mutex.mutex) c.owner_head.result c.requires.fit.heads c.owner_head.ensures
 
 pub returns-in-Thread : goal.returns-in-Thread
 returns-in-Thread c =

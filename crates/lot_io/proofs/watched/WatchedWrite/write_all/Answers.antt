@@ -12,8 +12,10 @@ pub loop-rest-preserved : goal.loop-rest-preserved
 loop-rest-preserved g c =
     let following = take_rest c.loop-rest.rest.now c.in_ok-taken.taken in
     record {
-      bytes = λ new h. c.loop-rest.invariant.bytes new (appends-rest _ _ new c.in_ok-taken.taken c.loop-rest.rest.now _ following c.in_ok-taken.ensures.bytes h);
-      begun = λ new count h. c.loop-rest.invariant.begun new (c.in_ok-taken.taken + count) (appends-more _ _ new c.in_ok-taken.taken count c.loop-rest.rest.now _ following c.in_ok-taken.ensures.bytes h);
+      bytes = λ new h. c.loop-rest.invariant.bytes new
+          (appends-rest _ _ new c.in_ok-taken.taken c.loop-rest.rest.now _ following c.in_ok-taken.ensures.bytes h);
+      begun = λ new count h. c.loop-rest.invariant.begun new (c.in_ok-taken.taken + count) (appends-more _ _ new
+          c.in_ok-taken.taken count c.loop-rest.rest.now _ following c.in_ok-taken.ensures.bytes h);
       failed = grind (arith, common_steps);
       shorter = grind (arith, common_steps);
       flushed = grind (arith, common_steps);

@@ -9,7 +9,8 @@ push_reserved-requires c =
 
 pub loop-number-preserved : goal.loop-number-preserved
 loop-number-preserved c = record {
-  items = c.push_reserved.ensures.items ∙ ap (λ (xs : List ℕ). xs ++ c.loop-number.number ∷ []) c.loop-number.invariant.items ∙ sym (range-more 0 c.loop-number.number c.loop-number.number (omega arith));
+  items = c.push_reserved.ensures.items ∙ ap (λ (xs : List ℕ). xs ++ c.loop-number.number ∷ [])
+      c.loop-number.invariant.items ∙ sym (range-more 0 c.loop-number.number c.loop-number.number (omega arith));
   room = c.push_reserved.ensures.capacity ∙ c.loop-number.invariant.room;
   within = omega arith;
 }

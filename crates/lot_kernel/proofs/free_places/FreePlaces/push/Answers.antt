@@ -7,5 +7,6 @@ push-requires c =
 
 pub returns : goal.returns
 returns c =
-    ap₂ (λ xs n. let v : FreeStack = record { places = xs; room = n } in v) (ap reverse c.push.ensures.items ∙ pushed-first c.self.inside.places.items c.args.place) c.push.ensures.room
+    ap₂ (λ xs n. let v : FreeStack = record { places = xs; room = n } in v)
+    (ap reverse c.push.ensures.items ∙ pushed-first c.self.inside.places.items c.args.place) c.push.ensures.room
     ∙ ap (λ (v : FreeStack). record v { places = c.args.place ∷ v.places }) c.self.view_is

@@ -4,5 +4,8 @@ use Rattle.lot_kernel.proofs.kernel.Kernel.find_above.Goals as goal
 
 pub returns-clause-above : goal.returns-clause-above
 returns-clause-above c number =
-    let same = ap (λ (w : LimitedFunding). w.funding) c.graph.ensures ∙ ap funding_in (threads-shown c.self-inside.inside.0.0 c.self.inside c.args.self.now c.self-inside.view_is c.self.view_is c.self-inside.invariant) in
-    subst (λ (f : Funding). HasFound c.find.new.self number ↔ Reaches f (Currency number) (Thread c.args.thread.number)) same (c.find.ensures.above (Currency number))
+    let same = ap (λ (w : LimitedFunding). w.funding) c.graph.ensures
+    ∙ ap funding_in (threads-shown c.self-inside.inside.0.0 c.self.inside c.args.self.now c.self-inside.view_is
+    c.self.view_is c.self-inside.invariant) in
+    subst (λ (f : Funding). HasFound c.find.new.self number ↔ Reaches f (Currency number) (Thread c.args.thread.number))
+    same (c.find.ensures.above (Currency number))

@@ -6,6 +6,7 @@ loop-i-init c = record {
   told = refl;
   state = refl;
   lengths = c.requires;
-  sound = subst (λ (k : Snapshot). IsSound k.state) c.self.view_is (order-sound c.self.inside.tables.state c.self.invariant);
+  sound = subst (λ (k : Snapshot). IsSound k.state) c.self.view_is
+      (order-sound c.self.inside.tables.state c.self.invariant);
   done = λ rest end done. done;
 }

@@ -9,5 +9,6 @@ invariant-loop-i l = record {
   state : state_after l.self.state (drop l.i l.events) ≡ state_after l.fn.self.state l.events;
   lengths : length l.events ≡ length l.out;
   sound : IsSound l.self.state;
-  done : (rest : List Reply) (end : Snapshot) → AreDone (drop l.i l.events) rest l.self end → AreDone l.events (take l.i l.out ++ rest) l.fn.self end;
+  done : (rest : List Reply) (end : Snapshot) → AreDone (drop l.i l.events) rest l.self end
+      → AreDone l.events (take l.i l.out ++ rest) l.fn.self end;
 }

@@ -13,8 +13,10 @@ returns-in-Ok c =
     let old = c.args.self.now in
     let is = done old.state c.args.command.now c.in-Ok.ensures.checked.0 ∙ c.in-Ok.ensures.checked.1 in
     record {
-      reply = c.done.ensures.reply ∙ ap (λ (x : Snapshot). (done_step x.state c.in-Ok.checked).reply) c.checked.ensures.unchanged ∙ sym (ap (λ (x : Step). x.reply) is);
-      state = c.done.ensures.state ∙ ap (λ (x : Snapshot). (done_step x.state c.in-Ok.checked).state) c.checked.ensures.unchanged ∙ sym (ap (λ (x : Step). x.state) is);
+      reply = c.done.ensures.reply ∙ ap (λ (x : Snapshot). (done_step x.state c.in-Ok.checked).reply)
+          c.checked.ensures.unchanged ∙ sym (ap (λ (x : Step). x.reply) is);
+      state = c.done.ensures.state ∙ ap (λ (x : Snapshot). (done_step x.state c.in-Ok.checked).state)
+          c.checked.ensures.unchanged ∙ sym (ap (λ (x : Step). x.state) is);
       stale = subst (λ (x : Snapshot). MakesStale x c.done.new.self) c.checked.ensures.unchanged c.done.ensures.stale;
       kept = subst (λ (x : Snapshot). KeepsStale x c.done.new.self) c.checked.ensures.unchanged c.done.ensures.kept;
       meter = c.done.ensures.meter ∙ ap (λ (x : Snapshot). x.meter) c.checked.ensures.unchanged;
@@ -24,4 +26,5 @@ pub returns-in-Err : goal.returns-in-Err
 returns-in-Err c =
     let old = c.args.self.now in
     let is = c.in-Err.ensures.checked in
-    rw c.checked.ensures.unchanged (record { reply = refused-reply old.state c.args.command.now c.in-Err.refusal is; state = refused-state old.state c.args.command.now c.in-Err.refusal is; stale = λ x stale. inl stale; kept = λ x stale. stale; meter = refl })
+    rw c.checked.ensures.unchanged
+    (record { reply = refused-reply old.state c.args.command.now c.in-Err.refusal is; state = refused-state old.state c.args.command.now c.in-Err.refusal is; stale = λ x stale. inl stale; kept = λ x stale. stale; meter = refl })

@@ -4,7 +4,8 @@ use Rattle.lot_kernel.proofs.tables.Tables.drop_currency.Goals as goal
 
 pub apply-requires-clause-allowed : goal.apply-requires-clause-allowed
 apply-requires-clause-allowed c =
-    subst (λ (f : Funding). IsUserCurrency f c.args.currency × (issued_in f c.args.currency ≡ []) × (backing_currency f c.args.currency ≡ [])) (sym (ap funding_in c.self.invariant.threads)) (rw (← c.self.view_is) at c.requires.unused)
+    subst (λ (f : Funding). IsUserCurrency f c.args.currency × (issued_in f c.args.currency ≡ []) × (backing_currency f
+    c.args.currency ≡ [])) (sym (ap funding_in c.self.invariant.threads)) (rw (← c.self.view_is) at c.requires.unused)
 
 pub remove-requires : goal.remove-requires
 remove-requires c =
@@ -21,10 +22,13 @@ index_mut-requires c =
 pub invariant_of-self : goal.invariant_of-self
 invariant_of-self c =
     let i = c.self.inside in
-    let threads = held-removed (sizes_of i.limits) (freed_in i.freed) i.currencies.items i.threads c.apply.new.self i.queues c.self.invariant.threads c.args.currency c.apply.ensures.applied in
+    let threads = held-removed (sizes_of i.limits) (freed_in i.freed) i.currencies.items i.threads c.apply.new.self
+    i.queues c.self.invariant.threads c.args.currency c.apply.ensures.applied in
     let index = c.remove.ensures.removed i.currencies.items c.self.invariant.currency_index in
-    let room = room-currencies (sizes_of i.limits) i.freed c.self.invariant.freed_room c.leave.new.self (ap (λ (x : FreeStack). x.room) c.leave.ensures) in
-    let none = none-currencies i.limits.reuse i.freed c.self.invariant.none_freed c.leave.new.self _ (ap (λ (x : FreeStack). x.places) c.leave.ensures) in
+    let room = room-currencies (sizes_of i.limits) i.freed c.self.invariant.freed_room c.leave.new.self
+    (ap (λ (x : FreeStack). x.room) c.leave.ensures) in
+    let none = none-currencies i.limits.reuse i.freed c.self.invariant.none_freed c.leave.new.self _
+    (ap (λ (x : FreeStack). x.places) c.leave.ensures) in
     search (rules, threads, index, room, none)
 
 pub leave-requires : goal.leave-requires
@@ -46,4 +50,5 @@ pub returns-clause-stale : goal.returns-clause-stale
 returns-clause-stale c = c.apply.ensures.stale.same tt ∙ ap (λ (x : Snapshot). x.stale) c.self.view_is
 
 pub returns-clause-meter : goal.returns-clause-meter
-returns-clause-meter c = ap (λ (v : Threaded). v.meter) c.apply.ensures.applied ∙ ap (λ (x : Snapshot). x.meter) c.self.view_is
+returns-clause-meter c = ap (λ (v : Threaded). v.meter) c.apply.ensures.applied
+    ∙ ap (λ (x : Snapshot). x.meter) c.self.view_is

@@ -25,13 +25,17 @@ returns-clause-state c =
 pub invariant_of-self : goal.invariant_of-self
 invariant_of-self c =
     let i = c.self.inside in
-    let threads = held-tickets (sizes_of i.limits) (freed_in i.freed) i.currencies.items i.threads c.apply.new.self i.queues c.self.invariant.threads _ c.apply.ensures.applied in
-    let room = room-tickets (sizes_of i.limits) i.freed c.self.invariant.freed_room c.leave.new.self (ap (λ (x : FreeStack). x.room) c.leave.ensures) in
-    let none = none-tickets i.limits.reuse i.freed c.self.invariant.none_freed c.leave.new.self _ (ap (λ (x : FreeStack). x.places) c.leave.ensures) in
+    let threads = held-tickets (sizes_of i.limits) (freed_in i.freed) i.currencies.items i.threads c.apply.new.self
+    i.queues c.self.invariant.threads _ c.apply.ensures.applied in
+    let room = room-tickets (sizes_of i.limits) i.freed c.self.invariant.freed_room c.leave.new.self
+    (ap (λ (x : FreeStack). x.room) c.leave.ensures) in
+    let none = none-tickets i.limits.reuse i.freed c.self.invariant.none_freed c.leave.new.self _
+    (ap (λ (x : FreeStack). x.places) c.leave.ensures) in
     search (rules, threads, room, none)
 
 pub returns-clause-stale : goal.returns-clause-stale
 returns-clause-stale c = c.apply.ensures.stale.same tt ∙ ap (λ (x : Snapshot). x.stale) c.self.view_is
 
 pub returns-clause-meter : goal.returns-clause-meter
-returns-clause-meter c = ap (λ (v : Threaded). v.meter) c.apply.ensures.applied ∙ ap (λ (x : Snapshot). x.meter) c.self.view_is
+returns-clause-meter c = ap (λ (v : Threaded). v.meter) c.apply.ensures.applied
+    ∙ ap (λ (x : Snapshot). x.meter) c.self.view_is

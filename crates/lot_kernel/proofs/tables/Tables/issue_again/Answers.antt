@@ -23,7 +23,8 @@ invariant_of-self-2 c =
     let i = c.self.inside in
     let records = ap (λ (v : Threaded). length v.records) c.apply.ensures.applied in
     record {
-      threads = held-tickets (sizes_of i.limits) (freed_in i.freed) i.currencies.items i.threads c.apply.new.self i.queues c.self.invariant.threads _ c.apply.ensures.applied;
+      threads = held-tickets (sizes_of i.limits) (freed_in i.freed) i.currencies.items i.threads c.apply.new.self
+          i.queues c.self.invariant.threads _ c.apply.ensures.applied;
       count = ap (λ (v : Threaded). length v.threads) c.apply.ensures.applied ∙ c.self.invariant.count ∙ sym records;
       few = omega (arith, c.self.invariant.few, records);
       clients = c.self.invariant.clients ∙ sym records;
@@ -31,12 +32,15 @@ invariant_of-self-2 c =
       currency_room = c.self.invariant.currency_room;
       currency_index = c.self.invariant.currency_index;
       currency_places = c.self.invariant.currency_places;
-      thread_index = subst (λ ts. IsIndexOf i.thread_index (names_of ts)) (sym (ap (λ (v : Threaded). v.threads) c.apply.ensures.applied)) c.self.invariant.thread_index;
+      thread_index = subst (λ ts. IsIndexOf i.thread_index (names_of ts))
+          (sym (ap (λ (v : Threaded). v.threads) c.apply.ensures.applied)) c.self.invariant.thread_index;
       thread_places = c.self.invariant.thread_places;
       queue_room = c.self.invariant.queue_room;
       lottery_room = c.self.invariant.lottery_room;
-      freed_room = room-tickets (sizes_of i.limits) i.freed c.self.invariant.freed_room c.pop.new.self (ap (λ (x : FreeStack). x.room) c.pop.ensures.rest);
-      none_freed = popped-tickets i.limits.reuse i.freed c.self.invariant.none_freed c.pop.new.self (ap (λ (x : FreeStack). x.places) c.pop.ensures.rest);
+      freed_room = room-tickets (sizes_of i.limits) i.freed c.self.invariant.freed_room c.pop.new.self
+          (ap (λ (x : FreeStack). x.room) c.pop.ensures.rest);
+      none_freed = popped-tickets i.limits.reuse i.freed c.self.invariant.none_freed c.pop.new.self
+          (ap (λ (x : FreeStack). x.places) c.pop.ensures.rest);
       holders = c.self.invariant.holders;
     }
 
@@ -44,11 +48,14 @@ pub returns-clause-number : goal.returns-clause-number
 returns-clause-number c =
     let i = c.self.inside in
     let s = held (sizes_of i.limits) (freed_in i.freed) i.currencies.items i.threads i.queues in
-    rw (← c.self.view_is) (ticket-number s c.self.invariant.none_freed (Some c.in_ok-place.place) (Some (c.in_ok-place.place + 1)) c.in_ok-place.ensures.first refl)
+    rw (← c.self.view_is) (ticket-number s c.self.invariant.none_freed (Some c.in_ok-place.place)
+    (Some (c.in_ok-place.place + 1)) c.in_ok-place.ensures.first refl)
 
 pub returns-clause-issued : goal.returns-clause-issued
 returns-clause-issued c =
     let i = c.self.inside in
     rw (← c.self.view_is)
-    (ticket-there (sizes_of i.limits) (freed_in i.freed) i.currencies.items i.threads c.apply.new.self i.queues c.pop.new.self.places c.self.invariant.none_freed (c.apply.ensures.stale.same tt)
-    c.in_ok-place.place c.args.ticket c.apply.ensures.applied (ap (λ (x : FreeStack). x.places) c.pop.ensures.rest) c.in_ok-place.ensures.first)
+    (ticket-there (sizes_of i.limits) (freed_in i.freed) i.currencies.items i.threads c.apply.new.self i.queues
+    c.pop.new.self.places c.self.invariant.none_freed (c.apply.ensures.stale.same tt)
+    c.in_ok-place.place c.args.ticket c.apply.ensures.applied
+    (ap (λ (x : FreeStack). x.places) c.pop.ensures.rest) c.in_ok-place.ensures.first)

@@ -5,7 +5,8 @@ pub invariant_of-result : goal.invariant_of-result
 invariant_of-result c =
     let opening = c.in_ok-threads.ensures.threads in
     let empty = c.in_ok-queues.ensures.queues in
-    let threads = opening-held (sizes_of c.args.limits) c.in_ok-threads.threads c.in_ok-currencies.currencies.items c.in_ok-queues.queues c.in_ok-currencies.ensures.names opening empty (freed_in c.in_ok-freed.freed) in
+    let threads = opening-held (sizes_of c.args.limits) c.in_ok-threads.threads c.in_ok-currencies.currencies.items
+    c.in_ok-queues.queues c.in_ok-currencies.ensures.names opening empty (freed_in c.in_ok-freed.freed) in
     record {
       threads = threads;
       count = rw opening refl;
@@ -25,4 +26,6 @@ invariant_of-result c =
     }
 
 pub returns : goal.returns
-returns c = opening-starts (sizes_of c.args.limits) c.in_ok-threads.threads c.in_ok-currencies.currencies.items c.in_ok-queues.queues c.in_ok-currencies.ensures.names c.in_ok-threads.ensures.threads c.in_ok-queues.ensures.queues (freed_in c.in_ok-freed.freed) c.in_ok-freed.ensures.none
+returns c = opening-starts (sizes_of c.args.limits) c.in_ok-threads.threads c.in_ok-currencies.currencies.items
+    c.in_ok-queues.queues c.in_ok-currencies.ensures.names c.in_ok-threads.ensures.threads c.in_ok-queues.ensures.queues
+    (freed_in c.in_ok-freed.freed) c.in_ok-freed.ensures.none

@@ -12,5 +12,6 @@ loop-place-preserved c =
 pub returns : goal.returns
 returns c =
     let due = alarm_at c.args.processors (alarms_in c.args.self.now.threads.items) in
-    let all : c.loop-place.place ≡ c.args.self.now.highest = omega (arith, c.loop-place-test.false, c.loop-place.auto.place-end) in
+    let all : c.loop-place.place ≡ c.args.self.now.highest =
+    omega (arith, c.loop-place-test.false, c.loop-place.auto.place-end) in
     c.loop-place.invariant ∙ ap (λ n. earliest (flat_map due (range_with_len 1 n))) all

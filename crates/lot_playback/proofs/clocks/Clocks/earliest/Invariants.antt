@@ -5,4 +5,5 @@ use Rattle.lot_playback.proofs.clocks.Clocks.earliest.Given as goal
 abbrev pub invariant-loop-place : goal.invariant-loop-place
 invariant-loop-place l =
     let m = moment_of l.system l.self.time l.self.processors.items (alarms_in l.alarms.threads.items) in
-    l.first ≡ earliest ((console_due m ++ timer_due l.program m) ++ flat_map (processor_due m) (range_with_len 1 l.place))
+    l.first
+    ≡ earliest ((console_due m ++ timer_due l.program m) ++ flat_map (processor_due m) (range_with_len 1 l.place))

@@ -6,5 +6,6 @@ abbrev pub invariant-loop-place : goal.invariant-loop-place
 invariant-loop-place l = record {
   time : l.self.time ≡ l.initial.self.time;
   clocks : l.self.processors.items
-      ≡ map (clock_after_console (world_of l.system).state l.time l.initial.self.processors.items) (range_with_len 1 l.place) ++ drop l.place l.initial.self.processors.items;
+      ≡ map (clock_after_console (world_of l.system).state l.time l.initial.self.processors.items)
+      (range_with_len 1 l.place) ++ drop l.place l.initial.self.processors.items;
 }

@@ -5,5 +5,6 @@ use Rattle.lot_playback.proofs.clocks.Clocks.wake.Given as goal
 abbrev pub invariant-loop-place : goal.invariant-loop-place
 invariant-loop-place l = record {
   time : l.self.time ≡ l.initial.self.time;
-  clocks : l.self.processors.items ≡ map (woken l.time) (take l.place l.initial.self.processors.items) ++ drop l.place l.initial.self.processors.items;
+  clocks : l.self.processors.items ≡ map (woken l.time) (take l.place l.initial.self.processors.items)
+      ++ drop l.place l.initial.self.processors.items;
 }

@@ -10,5 +10,6 @@ invariant-loop-place l = record {
   time : l.self.time ≡ l.fn.self.time;
   shared : l.self.shared_time ≡ l.fn.self.shared_time;
   whole : l.self.whole ≡ whole_in l.fn.self.sharers (world_of l.fn.system).state;
-  taken : HaveTaken (value_in l.fn.self.sharers (world_of l.fn.system).state) l.place l.fn.self.rate l.fn.self.places.items l.self.places.items;
+  taken : HaveTaken (value_in l.fn.self.sharers (world_of l.fn.system).state) l.place l.fn.self.rate
+      l.fn.self.places.items l.self.places.items;
 }

@@ -10,5 +10,6 @@ invariant_of-result c =
     record {
       timed = subst (λ (s : Seen). IsSome s.setting.program.duration) system c.requires;
       followed = subst (λ (s : Seen). IsFollowed s.setting.program s timekeeper) system
-          (opened-followed program c.in_ok-system.system timekeeper opened.legal.limits (opened.legal.time_count c.requires) (ap (λ (s : Seen). s.setting.program) c.in_ok-system.ensures) opened.opened);
+          (opened-followed program c.in_ok-system.system timekeeper opened.legal.limits (opened.legal.time_count
+          c.requires) (ap (λ (s : Seen). s.setting.program) c.in_ok-system.ensures) opened.opened);
     }

@@ -2,11 +2,13 @@ use Rattle.lot_playback.proofs.Lemmas.{arith, beyond-stays, cases_lt, inl, inr, 
 use Rattle.lot_playback.proofs.spans.SpanTable.queue_all.Goals as goal
 
 pub loop-place-init : goal.loop-place-init
-loop-place-init c = record { waits = none-passed c.args.time (world_of c.args.system.now).state c.args.self.now.threads.items }
+loop-place-init c =
+    record { waits = none-passed c.args.time (world_of c.args.system.now).state c.args.self.now.threads.items }
 
 pub loop-place-preserved : goal.loop-place-preserved
 loop-place-preserved c = record {
-  waits = one-passed c.args.time (world_of c.args.system.now).state c.loop-place.place c.args.self.now.threads.items c.loop-place.self.threads.items c.queue_thread.new.self.threads.items
+  waits = one-passed c.args.time (world_of c.args.system.now).state c.loop-place.place c.args.self.now.threads.items
+      c.loop-place.self.threads.items c.queue_thread.new.self.threads.items
       c.loop-place.invariant.waits c.queue_thread.ensures.queued;
 }
 
@@ -21,6 +23,8 @@ returns-clause-queued c place d below =
     elim (cases_lt place c.loop-place.place) [
       | inl passed ↦ waits.passed place d passed below
       | inr left ↦
-          let past : length records ≤ place = omega (arith, left, below, c.loop-place-test.false, c.thread_count.ensures.count) in
-          waits.left place d left below ∙ sym (beyond-stays c.args.time records place (slice_index_or old place d) past (c.requires.beyond place d past below))
+          let past : length records ≤ place =
+          omega (arith, left, below, c.loop-place-test.false, c.thread_count.ensures.count) in
+          waits.left place d left below ∙ sym (beyond-stays c.args.time records place (slice_index_or old place d) past
+          (c.requires.beyond place d past below))
     ]

@@ -9,4 +9,5 @@ returns-then-is_stopped-clause-due c =
 pub returns-clause-due : goal.returns-clause-due
 returns-clause-due c =
     let m = moment_in c.args.system.now c.args.self.now in
-    c.following.ensures.due ∙ ap (λ (b : Bool). cond b None (following c.args.program.now m)) (c.if-is_stopped.ensures c.args.system.now)
+    c.following.ensures.due
+    ∙ ap (λ (b : Bool). cond b None (following c.args.program.now m)) (c.if-is_stopped.ensures c.args.system.now)

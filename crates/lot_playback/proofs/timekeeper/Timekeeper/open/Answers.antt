@@ -5,13 +5,16 @@ pub returns-in_err-clocks-clause-opened : goal.returns-in_err-clocks-clause-open
 returns-in_err-clocks-clause-opened c = if-ok-none c.from_residual.result _ c.from_residual.ensures.0
 
 pub returns-in_err-mutexes-clause-opened : goal.returns-in_err-mutexes-clause-opened
-returns-in_err-mutexes-clause-opened c = if-ok-none c.from_residual-in_err-mutexes.result _ c.from_residual-in_err-mutexes.ensures.0
+returns-in_err-mutexes-clause-opened c =
+    if-ok-none c.from_residual-in_err-mutexes.result _ c.from_residual-in_err-mutexes.ensures.0
 
 pub returns-in_err-lives-clause-opened : goal.returns-in_err-lives-clause-opened
-returns-in_err-lives-clause-opened c = if-ok-none c.from_residual-in_err-lives.result _ c.from_residual-in_err-lives.ensures.0
+returns-in_err-lives-clause-opened c =
+    if-ok-none c.from_residual-in_err-lives.result _ c.from_residual-in_err-lives.ensures.0
 
 pub returns-in_err-dues-clause-opened : goal.returns-in_err-dues-clause-opened
-returns-in_err-dues-clause-opened c = if-ok-none c.from_residual-in_err-dues.result _ c.from_residual-in_err-dues.ensures.0
+returns-in_err-dues-clause-opened c =
+    if-ok-none c.from_residual-in_err-dues.result _ c.from_residual-in_err-dues.ensures.0
 
 pub returns-clause-opened : goal.returns-clause-opened
 returns-clause-opened c =
@@ -30,7 +33,8 @@ returns-clause-opened c =
       clocks = clocks ∙ ap (λ (s : Sizes). replicate s.processors clock) limits;
       alarms = nobody ∙ ap (λ (s : Sizes). replicate s.threads None) limits;
       refused = refl;
-      sleeping = none-sleeping sizes.processors c.in_ok-clocks.alarms c.limits-limits.result.threads (omega (arith, threads, legal.of_threads.1)) nobody highest next;
+      sleeping = none-sleeping sizes.processors c.in_ok-clocks.alarms c.limits-limits.result.threads
+          (omega (arith, threads, legal.of_threads.1)) nobody highest next;
       room = λ same. record {
         clocks = ap length clocks ∙ length-replicate c.limits-limits.result.processors clock ∙ processors;
         mutexes = omega (arith, threads, c.in_ok-mutexes.ensures.count.0, c.in_ok-mutexes.mutexes.threads.ok.0);

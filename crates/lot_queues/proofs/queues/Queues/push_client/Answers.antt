@@ -2,16 +2,23 @@ use Rattle.lot_queues.proofs.Lemmas.{clients-below, free, node-below, opened, pu
 use Rattle.lot_queues.proofs.queues.Queues.push_client.Goals as goal
 
 pub push_back-requires-clause-list_exists : goal.push_back-requires-clause-list_exists
-push_back-requires-clause-list_exists c = clients-below (opened _ _ c.self.view_is c.self.invariant) _ _ c.requires.server_there c.node_of.ensures
+push_back-requires-clause-list_exists c =
+    clients-below (opened _ _ c.self.view_is c.self.invariant) _ _ c.requires.server_there c.node_of.ensures
 
 pub push_back-requires-clause-node_exists : goal.push_back-requires-clause-node_exists
-push_back-requires-clause-node_exists c = node-below (opened _ _ c.self.view_is c.self.invariant) _ _ c.requires.thread_there c.node_of-2.ensures
+push_back-requires-clause-node_exists c =
+    node-below (opened _ _ c.self.view_is c.self.invariant) _ _ c.requires.thread_there c.node_of-2.ensures
 
 pub push_back-requires-clause-free : goal.push_back-requires-clause-free
-push_back-requires-clause-free c = free (opened _ _ c.self.view_is c.self.invariant) _ _ c.requires.thread_there c.node_of-2.ensures c.requires.nowhere
+push_back-requires-clause-free c =
+    free (opened _ _ c.self.view_is c.self.invariant) _ _ c.requires.thread_there c.node_of-2.ensures c.requires.nowhere
 
 pub invariant_of-self : goal.invariant_of-self
-invariant_of-self c = let after = push-client (opened _ _ c.self.view_is c.self.invariant) _ _ _ _ _ c.requires.server_there c.requires.thread_there c.node_of.ensures c.node_of-2.ensures c.push_back.ensures.pushed c.push_back.ensures.consistent in after.laid
+invariant_of-self c = let after =
+    push-client (opened _ _ c.self.view_is c.self.invariant) _ _ _ _ _ c.requires.server_there c.requires.thread_there
+    c.node_of.ensures c.node_of-2.ensures c.push_back.ensures.pushed c.push_back.ensures.consistent in after.laid
 
 pub returns : goal.returns
-returns c = let after = push-client (opened _ _ c.self.view_is c.self.invariant) _ _ _ _ _ c.requires.server_there c.requires.thread_there c.node_of.ensures c.node_of-2.ensures c.push_back.ensures.pushed c.push_back.ensures.consistent in after.is
+returns c = let after =
+    push-client (opened _ _ c.self.view_is c.self.invariant) _ _ _ _ _ c.requires.server_there c.requires.thread_there
+    c.node_of.ensures c.node_of-2.ensures c.push_back.ensures.pushed c.push_back.ensures.consistent in after.is

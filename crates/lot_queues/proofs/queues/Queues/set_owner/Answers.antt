@@ -8,4 +8,5 @@ index_mut-requires c =
     omega (arith, within.0, within.1, held.laid.owners)
 
 pub returns : goal.returns
-returns c = let after = set-owner (opened _ _ c.self.view_is c.self.invariant) c.args.mutex c.index_of.result c.args.owner c.requires c.index_of.ensures in after.is
+returns c = let after = set-owner (opened _ _ c.self.view_is c.self.invariant) c.args.mutex c.index_of.result
+    c.args.owner c.requires c.index_of.ensures in after.is

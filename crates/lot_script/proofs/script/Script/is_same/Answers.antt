@@ -8,5 +8,6 @@ line_eq-decides a b = search rules
 
 pub returns : goal.returns
 returns c =
-    let decided : Decides c.eq.result (c.lines.result.now ≡ c.lines-2.result.now) = slice_eq-Decides line_eq-decides c.lines.result.now c.lines-2.result.now c.eq.result c.eq.ensures in
+    let decided : Decides c.eq.result (c.lines.result.now ≡ c.lines-2.result.now) =
+    slice_eq-Decides line_eq-decides c.lines.result.now c.lines-2.result.now c.eq.result c.eq.ensures in
     rw (← c.lines.ensures.lines, ← c.lines-2.ensures.lines) decided

@@ -29,7 +29,8 @@ pub end_copy-requires-clause-open : goal.end_copy-requires-clause-open
 end_copy-requires-clause-open c = stands-nests _ _ _ (rw c.in-End.is at c.requires.stands)
 
 pub returns-in-Compute-clause-passes : goal.returns-in-Compute-clause-passes
-returns-in-Compute-clause-passes c = Passes-compute _ _ _ _ _ _ (rw c.in-Compute.is at c.requires.stands) c.work.ensures.count c.work.ensures.some c.work.ensures.all
+returns-in-Compute-clause-passes c = Passes-compute _ _ _ _ _ _
+    (rw c.in-Compute.is at c.requires.stands) c.work.ensures.count c.work.ensures.some c.work.ensures.all
 
 pub returns-in-Set-clause-passes : goal.returns-in-Set-clause-passes
 returns-in-Set-clause-passes c = rw c.set.ensures (Passes-set _ _ _ (rw c.in-Set.is at c.requires.stands))
@@ -41,4 +42,5 @@ pub returns-in-Loop-clause-passes : goal.returns-in-Loop-clause-passes
 returns-in-Loop-clause-passes c = rw c.enter.ensures (Passes-loop _ _ _ (rw c.in-Loop.is at c.requires.stands))
 
 pub returns-in-End-clause-passes : goal.returns-in-End-clause-passes
-returns-in-End-clause-passes c = Passes-end _ _ _ (rw c.in-End.is at c.requires.stands) c.end_copy.ensures.again c.end_copy.ensures.following
+returns-in-End-clause-passes c =
+    Passes-end _ _ _ (rw c.in-End.is at c.requires.stands) c.end_copy.ensures.again c.end_copy.ensures.following

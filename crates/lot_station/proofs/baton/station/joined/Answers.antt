@@ -5,8 +5,10 @@ pub loop-seat-init : goal.loop-seat-init
 loop-seat-init c =
     let gives = c.into_iter-seat-iterator.ensures.into_iter_gives in
     let first = c.remove.result in
-    let all = head_first c.args.seats.items first c.requires.some c.remove.ensures.value ∙ ap (λ l. first ∷ l) (sym (gives.0 ∙ c.remove.ensures.items)) in
-    let here = ap (λ (s : Seat). s.station) c.pass.view_is ∙ here_at _ _ c.requires.seats 0 first (ap (λ l. slice_get l 0) all) in (
+    let all = head_first c.args.seats.items first c.requires.some c.remove.ensures.value
+    ∙ ap (λ l. first ∷ l) (sym (gives.0 ∙ c.remove.ensures.items)) in
+    let here = ap (λ (s : Seat). s.station) c.pass.view_is
+    ∙ here_at _ _ c.requires.seats 0 first (ap (λ l. slice_get l 0) all) in (
       tt,
       tt,
       (here, c.pass.invariant.0),
@@ -20,11 +22,13 @@ absorb-requires-clause-queue c =
     let old = i.4.0 ∷ c.loop-seat.yielded in
     let next = c.in-Some.seat in
     let all = i.4.1 ∙ ap (λ l. old ++ l) c.in-Some.ensures.steps.0 in
-    let here = ap (λ (s : Seat). s.station) c.seat.view_is ∙ here_at _ _ c.requires.seats (length old) next (ap (λ l. slice_get l (length old)) all ∙ at_middle old next c.next.new.self.rest.items) in
+    let here = ap (λ (s : Seat). s.station) c.seat.view_is ∙ here_at _ _ c.requires.seats (length old) next
+    (ap (λ l. slice_get l (length old)) all ∙ at_middle old next c.next.new.self.rest.items) in
     (i.2, (here, c.seat.invariant.0))
 
 pub absorb-requires-clause-rule : goal.absorb-requires-clause-rule
-absorb-requires-clause-rule c = joins _ _ _ _ (ap (λ (v : View). v.fresh) c.loop-seat.invariant.4.2) (ap (λ (v : View). v.held) c.seat.invariant.1)
+absorb-requires-clause-rule c =
+    joins _ _ _ _ (ap (λ (v : View). v.fresh) c.loop-seat.invariant.4.2) (ap (λ (v : View). v.held) c.seat.invariant.1)
 
 pub loop-seat-preserved : goal.loop-seat-preserved
 loop-seat-preserved c =
@@ -39,7 +43,8 @@ loop-seat-preserved c =
       (
         i.4.0,
         moves_on _ old _ _ c.in-Some.seat i.4.1 step.0,
-        one_more _ _ _ old c.in-Some.seat i.4.2 (own_claim _ _ _ _ _ _ c.seat.invariant.1 c.seat.view_is) c.absorb.ensures.rule,
+        one_more _ _ _ old c.in-Some.seat i.4.2
+            (own_claim _ _ _ _ _ _ c.seat.invariant.1 c.seat.view_is) c.absorb.ensures.rule,
         i.4.3,
       ),
     )
@@ -50,7 +55,8 @@ returns-clause-pass c = c.loop-seat.invariant.2
 pub returns-clause-view : goal.returns-clause-view
 returns-clause-view c =
     let i = c.loop-seat.invariant in
-    i.4.2 ∙ ap (λ l. resting (map claim_of l)) (sym (all_taken _ (i.4.0 ∷ c.loop-seat.yielded) c.loop-seat.seat-iterator.rest.items i.4.1 (sym i.3 ∙ c.in-None.ensures.steps.0)))
+    i.4.2 ∙ ap (λ l. resting (map claim_of l)) (sym (all_taken _
+    (i.4.0 ∷ c.loop-seat.yielded) c.loop-seat.seat-iterator.rest.items i.4.1 (sym i.3 ∙ c.in-None.ensures.steps.0)))
 
 pub returns-clause-timer : goal.returns-clause-timer
 returns-clause-timer c =

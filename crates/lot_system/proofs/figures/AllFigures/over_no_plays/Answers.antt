@@ -6,5 +6,7 @@ pub returns : goal.returns
 returns c =
     let none = λ (n : ℕ). replicate n no_figures in
     over-none c.args.program.now _
-    (of-each _ (c.in_ok-no_figures.ensures ∙ ap none c.most_of.ensures) (c.in_ok-no_figures-2.ensures ∙ ap none c.most_of-2.ensures)
-    (c.in_ok-no_figures-3.ensures ∙ ap none c.most_of-3.ensures) (c.in_ok-no_figures-4.ensures ∙ ap none c.most_of-4.ensures))
+    (of-each _ (c.in_ok-no_figures.ensures ∙ ap none c.most_of.ensures)
+    (c.in_ok-no_figures-2.ensures ∙ ap none c.most_of-2.ensures)
+    (c.in_ok-no_figures-3.ensures ∙ ap none c.most_of-3.ensures)
+    (c.in_ok-no_figures-4.ensures ∙ ap none c.most_of-4.ensures))

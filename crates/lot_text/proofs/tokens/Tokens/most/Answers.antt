@@ -25,10 +25,12 @@ few-more x n ([] ∷ parts) few =
     let more : count (onto_first x ([] ∷ parts)) ≡ suc (count ([] ∷ parts)) = refl in
     record { all = omega (arith, more, few.behind refl); behind = λ e. absurd (omega (arith, e)) }
 few-more x n ((y ∷ part) ∷ parts) few =
-    let same : count (onto_first x ((y ∷ part) ∷ parts)) ≡ count ((y ∷ part) ∷ parts) = rw (filled (suc (length part)), filled (length part)) refl in
+    let same : count (onto_first x ((y ∷ part) ∷ parts)) ≡ count ((y ∷ part) ∷ parts) =
+    rw (filled (suc (length part)), filled (length part)) refl in
     record { all = omega (arith, same, few.all); behind = λ e. absurd (omega (arith, e)) }
 
-few-after : (x n : ℕ) (parts : List (List ℕ)) (separates : Bool) → AreFew parts n → AreFew (cond separates ([] ∷ parts) (onto_first x parts)) (suc n)
+few-after : (x n : ℕ) (parts : List (List ℕ)) (separates : Bool) → AreFew parts n
+    → AreFew (cond separates ([] ∷ parts) (onto_first x parts)) (suc n)
 few-after x n parts true few =
     let same : count ([] ∷ parts) ≡ count parts = refl in
     record { all = omega (arith, same, few.all); behind = λ e. omega (arith, same, few.all) }

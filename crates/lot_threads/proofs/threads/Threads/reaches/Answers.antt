@@ -5,5 +5,6 @@ pub returns-clause-reaches : goal.returns-clause-reaches
 returns-clause-reaches c =
     let i = c.self.inside in
     let was = graph-is i.graph i.queue i.threads.items i.records.items i.runners.items c.self.invariant.together in
-    let same : i.graph.now.funding ≡ funding_in c.args.self.now = ap (λ (w : LimitedFunding). w.funding) was ∙ ap funding_in c.self.view_is in
+    let same : i.graph.now.funding ≡ funding_in c.args.self.now = ap (λ (w : LimitedFunding). w.funding) was
+    ∙ ap funding_in c.self.view_is in
     subst (λ (f : Funding). IsTrue c.reaches.result ↔ Reaches f c.args.from c.args.to) same c.reaches.ensures.reaches

@@ -12,7 +12,10 @@ invariant_of-self c =
     let i = c.self.inside in
     let settled = c.settle.ensures in
     record {
-      together = settled-of i.graph c.settle.new.graph i.queue c.settle.new.self i.threads.items i.records.items i.runners.items c.self.invariant.together settled.queue settled.weights settled.now settled.live;
-      thread_room = subst (λ (w : LimitedFunding). i.threads.room ≡ w.thread_limit) (sym settled.now) c.self.invariant.thread_room;
-      record_room = subst (λ (w : LimitedFunding). i.records.room ≡ w.thread_limit) (sym settled.now) c.self.invariant.record_room;
+      together = settled-of i.graph c.settle.new.graph i.queue c.settle.new.self i.threads.items i.records.items
+          i.runners.items c.self.invariant.together settled.queue settled.weights settled.now settled.live;
+      thread_room = subst (λ (w : LimitedFunding). i.threads.room ≡ w.thread_limit)
+          (sym settled.now) c.self.invariant.thread_room;
+      record_room = subst (λ (w : LimitedFunding). i.records.room ≡ w.thread_limit)
+          (sym settled.now) c.self.invariant.record_room;
     }

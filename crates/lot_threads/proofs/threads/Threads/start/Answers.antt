@@ -6,5 +6,6 @@ change-requires c = record {
   there = c.requires.thread;
   timely = (tt, c.requires.quantum);
   lend = tt;
-  run = (c.requires.processor, nobody-else c.args.self.now c.args.processor.number c.args.thread.number c.requires.free);
+  run =
+      (c.requires.processor, nobody-else c.args.self.now c.args.processor.number c.args.thread.number c.requires.free);
 }

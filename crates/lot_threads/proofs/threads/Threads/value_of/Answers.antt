@@ -7,7 +7,10 @@ returns c =
     let was = graph-is i.graph i.queue i.threads.items i.records.items i.runners.items c.self.invariant.together in
     rw (← c.self.view_is) (record {
       worth = λ fresh has.
-          c.value_of.ensures.worth fresh (subst (λ (w : LimitedFunding). HasEquation w.funding c.args.node) (sym was) has)
-          ∙ ap (λ (live : List Bool). node_value i.graph.known.unit i.graph.now.funding live c.args.node) c.self.invariant.together.live
-          ∙ ap (λ (w : LimitedFunding). node_value i.graph.known.unit w.funding (live_in i.records.items) c.args.node) was;
+          c.value_of.ensures.worth fresh
+          (subst (λ (w : LimitedFunding). HasEquation w.funding c.args.node) (sym was) has)
+          ∙ ap (λ (live : List Bool). node_value i.graph.known.unit i.graph.now.funding live c.args.node)
+          c.self.invariant.together.live
+          ∙ ap
+          (λ (w : LimitedFunding). node_value i.graph.known.unit w.funding (live_in i.records.items) c.args.node) was;
     })

@@ -14,6 +14,8 @@ returns c =
     let was = graph-is i.graph i.queue i.threads.items i.records.items i.runners.items c.self.invariant.together in
     let count = ap (λ (w : LimitedFunding). length w.funding.lends) was in
     rw (← c.self.view_is)
-    (c.value_of.ensures.worth (rw (← c.self.view_is) at c.requires.fresh) (thread.0, omega (arith, thread.1, count, length-map i.records.items (λ (r : Record). lend_of (sizes_of i.lending) r.status)))
-    ∙ ap (λ (live : List Bool). thread_value i.graph.known.unit i.graph.now.funding live t) c.self.invariant.together.live
+    (c.value_of.ensures.worth (rw (← c.self.view_is) at c.requires.fresh)
+    (thread.0, omega (arith, thread.1, count, length-map i.records.items (λ (r : Record). lend_of (sizes_of i.lending) r.status)))
+    ∙ ap
+    (λ (live : List Bool). thread_value i.graph.known.unit i.graph.now.funding live t) c.self.invariant.together.live
     ∙ ap (λ (w : LimitedFunding). thread_value i.graph.known.unit w.funding (live_in i.records.items) t) was)

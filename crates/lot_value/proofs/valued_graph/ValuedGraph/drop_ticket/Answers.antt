@@ -3,14 +3,20 @@ use Rattle.lot_value.proofs.valued_graph.ValuedGraph.drop_ticket.Goals as goal
 use Rattle.lot_value.proofs.valued_graph.ValuedGraph.drop_ticket.Goals.{After-destroy}
 
 -- nothing else changed
-stays : (c : After-destroy) → Stays c.destroy.new.self c.self.inside.active c.self.inside.values (live_of c.self.inside.graph c.self.inside.active)
+stays : (c : After-destroy) → Stays c.destroy.new.self c.self.inside.active c.self.inside.values
+    (live_of c.self.inside.graph c.self.inside.active)
 stays c =
-    let free = subst (λ (x : Valued). CanApply x.now x.live (DropTicket c.args.number)) (sym c.self.view_is) c.requires.allowed in
-    stays-destroy c.self.inside.graph c.destroy.new.self c.self.inside.active c.self.inside.values c.self.invariant c.args.number free c.destroy.ensures.destroyed c.destroy.ensures.sound c.destroy.ensures.fits
+    let free =
+    subst (λ (x : Valued). CanApply x.now x.live (DropTicket c.args.number)) (sym c.self.view_is) c.requires.allowed in
+    stays-destroy c.self.inside.graph c.destroy.new.self c.self.inside.active c.self.inside.values c.self.invariant
+    c.args.number free c.destroy.ensures.destroyed c.destroy.ensures.sound c.destroy.ensures.fits
 
 -- so the change is made
-made : (c : After-destroy) → Done (DropTicket c.args.number) (seen c.self.inside.graph c.self.inside.active c.self.inside.values) (seen c.destroy.new.self c.self.inside.active c.self.inside.values)
-made c = done-stays (DropTicket c.args.number) c.self.inside.graph c.destroy.new.self c.self.inside.active c.self.inside.values c.destroy.ensures.destroyed refl tt (stays c)
+made : (c : After-destroy)
+    → Done (DropTicket c.args.number) (seen c.self.inside.graph c.self.inside.active c.self.inside.values)
+    (seen c.destroy.new.self c.self.inside.active c.self.inside.values)
+made c = done-stays (DropTicket c.args.number) c.self.inside.graph c.destroy.new.self c.self.inside.active
+    c.self.inside.values c.destroy.ensures.destroyed refl tt (stays c)
 
 pub invariant_of-self : goal.invariant_of-self
 invariant_of-self c = (stays c).together

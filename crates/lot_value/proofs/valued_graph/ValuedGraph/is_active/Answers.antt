@@ -11,7 +11,8 @@ pub returns-in-Some : goal.returns-in-Some
 returns-in-Some c =
     let w = c.self.inside.graph in
     let at = sym c.ticket.ensures.ticket ∙ c.in-Some.is in
-    rw (← c.self.view_is) (c.is_active.ensures.active w (live_of w c.self.inside.active) c.args.ticket c.self.invariant.kept (ticket-target w.funding c.args.ticket c.in-Some.record at))
+    rw (← c.self.view_is) (c.is_active.ensures.active w (live_of w c.self.inside.active) c.args.ticket
+    c.self.invariant.kept (ticket-target w.funding c.args.ticket c.in-Some.record at))
 
 pub returns-in-None : goal.returns-in-None
 returns-in-None c =

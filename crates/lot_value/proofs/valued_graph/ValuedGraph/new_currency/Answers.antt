@@ -4,7 +4,10 @@ use Rattle.lot_value.proofs.valued_graph.ValuedGraph.new_currency.Goals.{After-m
 
 -- the currency was made, and nothing else changed
 pushed : (c : After-make_currency)
-    → (c.make_currency.new.self ≡ with_currencies c.self.inside.graph (c.self.inside.graph.funding.currencies ++ true ∷ [])) × Stays c.make_currency.new.self c.self.inside.active c.self.inside.values (live_of c.self.inside.graph c.self.inside.active)
+    → (c.make_currency.new.self
+    ≡ with_currencies c.self.inside.graph (c.self.inside.graph.funding.currencies ++ true ∷ []))
+    × Stays c.make_currency.new.self c.self.inside.active c.self.inside.values
+    (live_of c.self.inside.graph c.self.inside.active)
 pushed c =
     let i = c.self.inside in
     let room = subst (λ (x : Valued). CanApply x.now x.live NewCurrency) (sym c.self.view_is) c.requires.allowed in
@@ -12,8 +15,10 @@ pushed c =
     (one, stays-currencies i.graph c.make_currency.new.self i.active i.values c.self.invariant (i.graph.funding.currencies ++ true ∷ []) one c.make_currency.ensures.sound c.make_currency.ensures.fits)
 
 -- so the change is made
-made : (c : After-make_currency) → Done NewCurrency (seen c.self.inside.graph c.self.inside.active c.self.inside.values) (seen c.make_currency.new.self c.self.inside.active c.self.inside.values)
-made c = let (is, stays) = pushed c in done-stays NewCurrency c.self.inside.graph c.make_currency.new.self c.self.inside.active c.self.inside.values is refl tt stays
+made : (c : After-make_currency) → Done NewCurrency (seen c.self.inside.graph c.self.inside.active c.self.inside.values)
+    (seen c.make_currency.new.self c.self.inside.active c.self.inside.values)
+made c = let (is, stays) = pushed c in done-stays NewCurrency c.self.inside.graph c.make_currency.new.self
+    c.self.inside.active c.self.inside.values is refl tt stays
 
 pub invariant_of-self : goal.invariant_of-self
 invariant_of-self c = (pushed c).1.together

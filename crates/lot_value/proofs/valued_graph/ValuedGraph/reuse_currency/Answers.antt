@@ -3,14 +3,20 @@ use Rattle.lot_value.proofs.valued_graph.ValuedGraph.reuse_currency.Goals as goa
 use Rattle.lot_value.proofs.valued_graph.ValuedGraph.reuse_currency.Goals.{After-make_currency_again}
 
 -- nothing else changed
-stays : (c : After-make_currency_again) → Stays c.make_currency_again.new.self c.self.inside.active c.self.inside.values (live_of c.self.inside.graph c.self.inside.active)
+stays : (c : After-make_currency_again) → Stays c.make_currency_again.new.self c.self.inside.active c.self.inside.values
+    (live_of c.self.inside.graph c.self.inside.active)
 stays c =
-    stays-currencies c.self.inside.graph c.make_currency_again.new.self c.self.inside.active c.self.inside.values c.self.invariant (slice_set c.self.inside.graph.funding.currencies c.args.currency true) c.make_currency_again.ensures.made
+    stays-currencies c.self.inside.graph c.make_currency_again.new.self c.self.inside.active c.self.inside.values
+    c.self.invariant
+    (slice_set c.self.inside.graph.funding.currencies c.args.currency true) c.make_currency_again.ensures.made
     c.make_currency_again.ensures.sound c.make_currency_again.ensures.fits
 
 -- so the change is made
-made : (c : After-make_currency_again) → Done (ReuseCurrency c.args.currency) (seen c.self.inside.graph c.self.inside.active c.self.inside.values) (seen c.make_currency_again.new.self c.self.inside.active c.self.inside.values)
-made c = done-stays (ReuseCurrency c.args.currency) c.self.inside.graph c.make_currency_again.new.self c.self.inside.active c.self.inside.values c.make_currency_again.ensures.made refl tt (stays c)
+made : (c : After-make_currency_again)
+    → Done (ReuseCurrency c.args.currency) (seen c.self.inside.graph c.self.inside.active c.self.inside.values)
+    (seen c.make_currency_again.new.self c.self.inside.active c.self.inside.values)
+made c = done-stays (ReuseCurrency c.args.currency) c.self.inside.graph c.make_currency_again.new.self
+    c.self.inside.active c.self.inside.values c.make_currency_again.ensures.made refl tt (stays c)
 
 pub invariant_of-self : goal.invariant_of-self
 invariant_of-self c = (stays c).together

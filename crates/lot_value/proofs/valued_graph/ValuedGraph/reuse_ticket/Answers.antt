@@ -4,18 +4,24 @@ use Rattle.lot_value.proofs.valued_graph.ValuedGraph.reuse_ticket.Goals.{After-i
 
 -- the ticket was issued, and nothing else changed
 issued : (c : After-issue_again)
-    → (c.issue_again.new.self ≡ graph_after c.self.inside.graph (ReuseTicket c.args.number c.args.ticket)) × Stays c.issue_again.new.self c.self.inside.active c.self.inside.values (live_of c.self.inside.graph c.self.inside.active)
+    → (c.issue_again.new.self ≡ graph_after c.self.inside.graph (ReuseTicket c.args.number c.args.ticket)) × Stays
+    c.issue_again.new.self c.self.inside.active c.self.inside.values (live_of c.self.inside.graph c.self.inside.active)
 issued c =
     let i = c.self.inside in
     let t = c.args.ticket in
-    let (gap, issuer, amount, free) = subst (λ (x : Valued). CanApply x.now x.live (ReuseTicket c.args.number t)) (sym c.self.view_is) c.requires.allowed in
+    let (gap, issuer, amount, free) = subst (λ (x : Valued). CanApply x.now x.live (ReuseTicket c.args.number t))
+    (sym c.self.view_is) c.requires.allowed in
     let made : c.issue_again.new.self ≡ graph_after i.graph (ReuseTicket c.args.number t) =
-    c.issue_again.ensures.issued ∙ ap (λ to. with_tickets i.graph (set_number i.graph.funding.tickets c.args.number (Some (record t { target = to })))) (sym free) in
+    c.issue_again.ensures.issued ∙ ap (λ to. with_tickets i.graph
+    (set_number i.graph.funding.tickets c.args.number (Some (record t { target = to })))) (sym free) in
     (made, stays-again i.graph c.issue_again.new.self i.active i.values c.self.invariant c.args.number t gap free made c.issue_again.ensures.sound c.issue_again.ensures.fits)
 
 -- so the change is made
-made : (c : After-issue_again) → Done (ReuseTicket c.args.number c.args.ticket) (seen c.self.inside.graph c.self.inside.active c.self.inside.values) (seen c.issue_again.new.self c.self.inside.active c.self.inside.values)
-made c = let (is, stays) = issued c in done-stays (ReuseTicket c.args.number c.args.ticket) c.self.inside.graph c.issue_again.new.self c.self.inside.active c.self.inside.values is refl tt stays
+made : (c : After-issue_again) → Done (ReuseTicket c.args.number c.args.ticket)
+    (seen c.self.inside.graph c.self.inside.active c.self.inside.values)
+    (seen c.issue_again.new.self c.self.inside.active c.self.inside.values)
+made c = let (is, stays) = issued c in done-stays (ReuseTicket c.args.number c.args.ticket) c.self.inside.graph
+    c.issue_again.new.self c.self.inside.active c.self.inside.values is refl tt stays
 
 pub invariant_of-self : goal.invariant_of-self
 invariant_of-self c = (issued c).1.together

@@ -7,12 +7,15 @@ ticket_value-requires c =
     let inv = c.self.invariant in
     let live = live_of w c.self.inside.active in
     record {
-      right = (live, inv.kept, stays-small c.self.inside.values.unit w live inv.kept.fits inv.tickets inv.unit, inv.right);
-      fresh = subst (λ (x : Valued). (t : Ticket) → ticket_at x.now.funding c.args.ticket ≡ Some t → ¬ IsStale x.known (Currency t.issuer)) (sym c.self.view_is) c.requires.fresh;
+      right =
+          (live, inv.kept, stays-small c.self.inside.values.unit w live inv.kept.fits inv.tickets inv.unit, inv.right);
+      fresh = subst (λ (x : Valued). (t : Ticket) → ticket_at x.now.funding c.args.ticket ≡ Some t
+          → ¬ IsStale x.known (Currency t.issuer)) (sym c.self.view_is) c.requires.fresh;
     }
 
 pub returns-clause-worth : goal.returns-clause-worth
-returns-clause-worth c = rw (← c.self.view_is) (c.ticket_value.ensures.worth (live_of c.self.inside.graph c.self.inside.active) c.self.invariant.kept c.self.invariant.right)
+returns-clause-worth c = rw (← c.self.view_is) (c.ticket_value.ensures.worth
+    (live_of c.self.inside.graph c.self.inside.active) c.self.invariant.kept c.self.invariant.right)
 
 pub invariant_of-self : goal.invariant_of-self
 invariant_of-self c =

@@ -10,5 +10,6 @@ pub returns : goal.returns
 returns c = record {
   worth =
       rw (← c.self.view_is)
-      (λ fresh has. c.value_of.ensures.worth fresh c.self.inside.graph (live_of c.self.inside.graph c.self.inside.active) c.self.invariant.kept.sound c.self.invariant.kept.fits c.self.invariant.right has);
+      (λ fresh has. c.value_of.ensures.worth fresh c.self.inside.graph (live_of c.self.inside.graph
+      c.self.inside.active) c.self.invariant.kept.sound c.self.invariant.kept.fits c.self.invariant.right has);
 }

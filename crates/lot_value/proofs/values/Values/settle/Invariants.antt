@@ -5,8 +5,10 @@ use Rattle.lot_value.proofs.values.Values.settle.Given as goal
 abbrev pub invariant-loop : goal.invariant-loop
 invariant-loop l = record {
   unit : l.self.unit ≡ l.fn.self.unit;
-  right : (live : List Bool) → IsKeptFor l.active l.graph live → IsRight l.graph live l.fn.self → IsRight l.graph live l.self;
-  counted : (count : ℕ) × (l.self.reads ≡ counted_up l.fn.self.reads count) × (count + edges_into_all l.graph.funding l.self.stale ≡ edges_into_all l.graph.funding l.fn.self.stale);
+  right : (live : List Bool) → IsKeptFor l.active l.graph live → IsRight l.graph live l.fn.self
+      → IsRight l.graph live l.self;
+  counted : (count : ℕ) × (l.self.reads ≡ counted_up l.fn.self.reads count)
+      × (count + edges_into_all l.graph.funding l.self.stale ≡ edges_into_all l.graph.funding l.fn.self.stale);
 }
 
 abbrev pub decreases-loop : goal.decreases-loop

@@ -7,10 +7,13 @@ returns-clause-seen g c =
     let held = held_after _ _ _ _ _ i.1 c.take-system.ensures.holds in
     let given = given_after _ _ _ _ _ _ held c.give.ensures.gave in
     let sees = (subst (λ (y : View). SeesAll c.take-system.result y.claims) i.1 c.take-system.ensures.seen).0 in
-    let old = seat c.seat.inside.pass.table_id c.seat.inside.actor (seen_in (view c.seat.inside.pass).claims) c.seat.inside.stopped in
-    let new = seat c.give.new.pass.table_id c.seat.inside.actor (seen_in (view c.give.new.pass).claims) c.seat.inside.stopped in
+    let old = seat c.seat.inside.pass.table_id c.seat.inside.actor
+    (seen_in (view c.seat.inside.pass).claims) c.seat.inside.stopped in
+    let new =
+    seat c.give.new.pass.table_id c.seat.inside.actor (seen_in (view c.give.new.pass).claims) c.seat.inside.stopped in
     subst (λ o. Looks o new) c.seat.view_is
-    (looks old new c.take-system.result (ap (λ (y : View). seen_in y.claims) given) sees (c.work-work.ensures.legal (ap (λ (s : Setting). s.timer) sees.0.0 ∙ i.4)))
+    (looks old new c.take-system.result (ap (λ (y : View). seen_in y.claims) given) sees
+    (c.work-work.ensures.legal (ap (λ (s : Setting). s.timer) sees.0.0 ∙ i.4)))
 
 pub invariant_of-seat : goal.invariant_of-seat
 invariant_of-seat g c =
