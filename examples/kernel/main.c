@@ -17,11 +17,8 @@ enum { PORT = 1, MUTEX = 1, HALF = 1250000, NAP = 2500 };
 static uint32_t acquired[3], calls, naps, late, hog, killed;
 static volatile uint32_t hogged; // volatile: else a compiler may leave out the write before `spins`, which never ends
 
-// Each of the two instructions takes one count, as `boot` starts QEMU.
-static void work(uint32_t ticks) {
-    uint64_t steps = (uint64_t)ticks * COUNTS_PER_TICK / 2;
-    __asm__ volatile("1: subs %0, %0, #1; b.ne 1b" : "+r"(steps)::"cc");
-}
+// As `boot` starts QEMU, each instruction takes the same time.
+static void work(uint32_t ticks) { do_steps((uint64_t)ticks * COUNTS_PER_TICK / COUNTS_PER_STEP); }
 
 static void spins(uint32_t ticks) {
     for (;; work(ticks)) {
@@ -148,6 +145,9 @@ void kernel_main(void) {
     start_lottery(1994);
     make_currency("alice", 200);
     make_currency("bob", 100);
+    if (DISTURBED_CALLS != 0) {
+        refuse_circles(DISTURBED_CALLS, "alice", "bob");
+    }
     make(); // the sleeper, alone for ten naps: the processor rests
     run_threads(10 * NAP);
     print("alone, the sleeper has slept %u times, and went on %u ticks late\n", naps, late);

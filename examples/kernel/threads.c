@@ -1,10 +1,10 @@
 // threads.c: threads, and the lottery that says which of them runs. A thread goes on until the alarm interrupts it, or
 // until it traps: it yields, sleeps, calls, locks, ends and so on. `run_threads` tells the library which of these it
 // was, and asks who runs next. It is the kernel's only loop, on the kernel's own stack and with interrupts masked. So
-// no two calls of the library overlap, threads' stacks may be small, and NEON's registers are the library's alone.
+// no two calls of the library overlap, threads' stacks may be small, and vector registers are the library's alone.
 #include "kernel.h"
 
-enum { PROCESSOR = 1, STACK_WORDS = 512, CANARY = 0x5afe, ON_SP_EL0 = 4, TRAPPED = 0x15 };
+enum { PROCESSOR = 1, STACK_WORDS = 512, CANARY = 0x5afe };
 
 typedef struct thread {
     frame registers;
@@ -54,7 +54,7 @@ static lot_reply tell(lot_event event) {
         panic("event %u: %s", event.kind, status != 0 ? lot_status_text(status) : lot_refusal_text(reply.reason));
     }
     if (reply.has_sent) {
-        threads[reply.thread].registers.x[0] = reply.sent;
+        give(&threads[reply.thread].registers, reply.sent);
     }
     return reply;
 }
@@ -78,6 +78,27 @@ void take_tickets(uint32_t number) {
     tell(lot_remove_ticket(threads[number].ticket));
 }
 
+// Asks so often for a funding that would make a circle of two currencies, with interrupts on. Each time the library
+// refuses it, whatever comes between.
+void refuse_circles(uint32_t times, const char *one, const char *other) {
+    lot_reply there = tell(lot_make_ticket(1, lot_name_of(one))), back = tell(lot_make_ticket(1, lot_name_of(other)));
+    tell(lot_fund(there.ticket, lot_name_of(other)));
+    lot_event circle = lot_fund(back.ticket, lot_name_of(one));
+    uint64_t before = disturb(true);
+    for (uint32_t count = 0; count < times; count++) {
+        lot_reply reply;
+        uint32_t status = lot_kernel_event(&lottery, &circle, &reply);
+        if (status != LOT_DONE || reply.reason != LOT_REFUSAL_CYCLE) {
+            panic("circle %u isn't refused", count);
+        }
+    }
+    uint64_t interrupts = disturb(false) - before;
+    print("%u circles were refused, and %u interrupts came meanwhile\n", times, (uint32_t)interrupts);
+    tell(lot_unfund(there.ticket));
+    tell(lot_remove_ticket(there.ticket));
+    tell(lot_remove_ticket(back.ticket));
+}
+
 uint64_t counts_of(uint32_t number) { return threads[number].counts; }
 
 lot_thread_row row_of(uint32_t number) {
@@ -99,11 +120,7 @@ uint32_t spawn(const char *name, uint32_t tickets, const char *currency, thread_
     it->ticket = made.ticket;
     it->counts = it->charged = 0; // another thread may have had the number
     it->stack[0] = CANARY;
-    it->registers.x[0] = argument;
-    it->registers.x[30] = (uint64_t)end_thread;
-    it->registers.sp = (uint64_t)(it->stack + STACK_WORDS);
-    it->registers.pc = (uint64_t)body;
-    it->registers.pstate = ON_SP_EL0;
+    begin(&it->registers, it->stack + STACK_WORDS, body, argument, end_thread);
     return made.thread;
 }
 
@@ -163,9 +180,9 @@ static lot_event event_of(uint32_t kind, uint32_t ticks, uint32_t object, uint32
 // Gives the ticks that it was charged: none for a kill, which is a command to the library and no trap. The thread that
 // asked for it goes on, and these ticks count when it next stops.
 static uint32_t do_trap(uint32_t number, uint32_t ticks) {
-    uint64_t *x = threads[number].registers.x;
-    uint32_t kind = (uint32_t)x[0], object = (uint32_t)x[1];
-    tell(event_of(kind, ticks - 1, object, (uint32_t)x[2]));
+    uint64_t *given = arguments_of(&threads[number].registers);
+    uint32_t kind = (uint32_t)given[0], object = (uint32_t)given[1];
+    tell(event_of(kind, ticks - 1, object, (uint32_t)given[2]));
     if (kind == LOT_SLEEP) {
         threads[number].wakes = now + (uint64_t)object * COUNTS_PER_TICK;
     } else if (kind == LOT_EXIT || kind == LOT_KILL_NUMBERED) {
@@ -181,14 +198,14 @@ static void run(lot_runner runner, uint64_t next_wake) {
     uint32_t left = QUANTUM - runner.used;
     uint64_t end = now + (it->charged + left) * COUNTS_PER_TICK - it->counts;
     start_time(end < next_wake ? end : next_wake);
-    uint64_t syndrome = resume(&it->registers);
+    uint64_t reason = resume(&it->registers);
     it->counts += stop_time();
     uint64_t ran = it->counts / COUNTS_PER_TICK;
     uint32_t ticks = ran > it->charged ? (uint32_t)(ran - it->charged) : 0;
-    if (it->stack[0] != CANARY || (syndrome != 0 && syndrome >> 26 != TRAPPED)) {
-        panic("thread %u: fault %x at %x", runner.thread, (uint32_t)syndrome, (uint32_t)it->registers.pc);
+    if (it->stack[0] != CANARY || (reason != 0 && !has_trapped(reason))) {
+        panic("thread %u: fault %x at %x", runner.thread, (uint32_t)reason, (uint32_t)it->registers.pc);
     }
-    if (syndrome != 0) {
+    if (reason != 0) {
         ticks = ticks == 0 ? 1 : ticks < left ? ticks : left;
         ticks = do_trap(runner.thread, ticks);
     } else {

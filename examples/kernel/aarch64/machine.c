@@ -35,5 +35,17 @@ void end_interrupt(void) { *device(GIC_PROCESSOR + 0x10) = *device(GIC_PROCESSOR
 
 void mask_interrupts(bool masked) { __asm__ volatile("msr daif, %0" ::"r"((uint64_t)masked << 7) : "memory"); }
 
+// Nothing interrupts the kernel.
+uint64_t disturb(bool again) { return again; }
+
+void begin(frame *thread, uint64_t *stack_top, thread_body *body, uint32_t argument, void (*end)(void)) {
+    enum { RETURN = 30, ON_SP_EL0 = 4 };
+    thread->x[0] = argument;
+    thread->x[RETURN] = (uint64_t)end;
+    thread->sp = (uint64_t)stack_top;
+    thread->pc = (uint64_t)body;
+    thread->pstate = ON_SP_EL0;
+}
+
 // The kernel itself has faulted.
 void fault(uint32_t syndrome, uint32_t at) { panic("fault %x at %x", syndrome, at); }
