@@ -1,7 +1,9 @@
 mod amounts;
 mod bounds;
 mod chains;
+mod embedding;
 mod funding;
+mod generated;
 mod kills;
 mod nameless;
 mod names;

@@ -1,7 +1,9 @@
 mod packing;
 mod printing;
 mod same;
+mod skipped;
 mod slices;
+mod words;
 
 use crate::fault_of;
 use lot_kernel_tests::command_with;

@@ -7,9 +7,7 @@ mod curves;
 mod endings;
 mod explained;
 mod pictures;
-mod skipped;
 mod warnings;
-mod words;
 
 use crate::tests::same::{check_same, check_same_at};
 use endings::has_written_or_lacked_memory;

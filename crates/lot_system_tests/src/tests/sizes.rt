@@ -1,6 +1,3 @@
-mod embedding;
-mod generated;
 mod histories;
 mod inputs;
-mod reads;
 mod sizes;

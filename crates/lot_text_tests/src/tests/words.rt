@@ -1,7 +1,6 @@
 //! Refused inputs, and the diagnostic for each.
-use super::check_said;
+use super::same::{check_same, check_same_at};
 use super::skipped::{fault_of, repeated};
-use crate::tests::same::{check_same, check_same_at};
 use lot_diagnostics::{line_of_command, write_words};
 use std::alloc::Global;
 use std::process::Abort;
@@ -18,7 +17,8 @@ fn diagnostic(rt: &impl Abort, alloc: Global, input: &[u8]) -> Vec<u8> {
 /// Reads the input, which is refused, and compares the diagnostic.
 fn check<H: Abort>(rt: &H, alloc: Global, input: &[u8], expected: &str) {
     let words = diagnostic(rt, alloc, input);
-    check_said(rt, words.as_slice(), expected)
+    let said = str::from_utf8(words.as_slice()).unwrap_or("");
+    check_same(rt, &said, &expected)
 }
 
 /// The two sides of the arrow in a row: an input, or some lines of one, and the diagnostic.

@@ -1,5 +1,5 @@
 //! Refused lines that a caller can skip, and lines that it can't.
-use crate::tests::same::check_same_at;
+use super::same::check_same_at;
 use lot_diagnostics::line_to_skip;
 use lot_simulation::InputFault;
 use lot_text::{ParseFault, parse};

@@ -1,14 +1,15 @@
 //! Events of all kinds from a fixed generator, over the largest tables. After many listings a kernel shows the same
 //! rows as a kernel that got all events at once.
+ghost use Rattle.std.specs.Prelude.{◌≡◌};
+ghost use Rattle.lot_simulation.specs.World as world;
 
-use super::reads::may_read;
-use crate::tests::same::check_same;
+use super::same::check_same;
+use crate::OneOfEach;
 use lot_draw::ParkMiller;
 use lot_kernel::{
     Action, Command, CurrencyNumber, Event, Kernel, Limits, Meter, Name, Sizes, ThreadNumber,
     TicketNumber,
 };
-use lot_kernel_tests::OneOfEach;
 use lot_machine::{CurrencyRef, TargetRef, ThreadRef, Verb, command_of};
 use lot_simulation::BodyWord;
 use std::alloc::Global;
@@ -19,6 +20,16 @@ const PART: u32 = 1000;
 
 /// The number of comparisons.
 const PARTS: u32 = 100;
+
+/// Whether an event may read values: one that takes a drawn number, a draw or an unlock.
+fn may_read(event: &Event) -> bool
+    ensures { result ≡ world.takes_number event.now }
+{
+    matches!(
+        event,
+        Event::Draw(..) | Event::Trap(_, _, Action::Unlock(..))
+    )
+}
 
 /// The generator of the events, always with the same seed.
 fn generator(rt: &impl Abort) -> ParkMiller {
