@@ -15,7 +15,7 @@ sum-all amount [] = omega arith
 sum-all amount (x ∷ xs) = omega (arith, sum_by-cons (λ y. amount) x xs, sum-all amount xs)
 
 -- one amount for each element that passes the test, and another for each that doesn't
-sum-either : {A : Type 0} (p : A → Bool) (a b : ℕ) (xs : List A)
+pub sum-either : {A : Type 0} (p : A → Bool) (a b : ℕ) (xs : List A)
     → sum_by (λ x. cond (p x) a b) xs + count_by p xs * b ≡ count_by p xs * a + length xs * b
 sum-either p a b [] = omega arith
 sum-either p a b (x ∷ xs) =
@@ -30,7 +30,7 @@ sum-either p a b (x ∷ xs) =
     at false here count more = rw (here, count) (omega (arith, more))
 
 -- lists of one element more: each element, before each list
-sum-lists : {A : Type 0} (g : List A → ℕ) (xs : List A) (n : ℕ)
+pub sum-lists : {A : Type 0} (g : List A → ℕ) (xs : List A) (n : ℕ)
     → sum_by g (lists_of xs (suc n)) ≡ sum_by (λ x. sum_by (λ rest. g (x ∷ rest)) (lists_of xs n)) xs
 sum-lists {A = A} g xs n =
     sum-flat g (λ x. map (λ rest. x ∷ rest) (lists_of xs n)) xs

@@ -1,5 +1,11 @@
 pub mod Common
 pub mod AllDraws
+pub mod RoundKept
+pub mod RoundRuns
+pub mod WholeRounds
+pub mod Compensated
+pub mod Slices
+pub mod Losses
 pub mod EachTicket
 pub mod KeptPaths
 pub mod Conserved
@@ -21,6 +27,10 @@ pub mod MutexWaiters
 pub mod QueueMoves
 pub mod ServingMoves
 pub mod MutexWait
+pub mod DeadThreads
+pub mod KillMoves
+pub mod UnlockMoves
+pub mod UnlockShares
 pub mod WaitingServer
 pub mod Enclosed
 pub mod StaysInside
@@ -28,6 +38,8 @@ pub mod Inflated
 pub mod Served
 pub mod StayOut
 pub mod FullRefused
+pub mod FullTables
+pub mod NumbersGiven
 pub mod Sleepers
 pub mod Listed
 pub mod WaitsListed

@@ -1,11 +1,12 @@
 -- The kill of a thread, and the threads that it releases.
-use Rattle.std.specs.Prelude.{◌≡◌, ◌⊎◌, ℕ, Some, Contains, slice_get}
+use Rattle.std.specs.Prelude.{◌≡◌, ◌≢◌, ◌⊎◌, ℕ, Some, Contains, [], slice_get}
 use Rattle.lot_machine.specs.declared.command.Command.TheVariants.{Kill}
 use Rattle.lot_machine.specs.declared.event.Event.TheVariants.{Command}
 use Rattle.lot_machine.specs.declared.reference.ThreadRef.{ThreadRef}
 use Rattle.lot_machine.specs.declared.reply.Reply.TheVariants.{Killed}
 use Rattle.lot_machine.specs.Numbered.{at_number}
-use Rattle.lot_machine.specs.State.{State, Mutex}
+use Rattle.lot_machine.specs.Funding.{backing_thread, owner_of}
+use Rattle.lot_machine.specs.State.{State, Mutex, funding_of}
 use Rattle.lot_machine.specs.Ports.{clients_of}
 use Rattle.lot_machine.specs.Step.{step}
 
@@ -28,3 +29,8 @@ IsNextOwner s t u = (m : ℕ) × ((mutex : Mutex) × Owns s t m mutex × (slice_
 -- thread u waits for thread t: it is a client, or has waited longest for a mutex that t owns
 abbrev pub WaitsForThread : State → ℕ → ℕ → Type 0
 WaitsForThread s t u = Contains (clients_of s.clients t) u ⊎ IsNextOwner s t u
+
+-- the thread has nothing but its clients: no ticket funds it, it owns no mutex, and with `queued_lend` no port is its
+pub record HasOnlyClients (s : State) (t : ℕ) : Type 0 where
+  pub tickets : backing_thread (funding_of s) t ≡ []
+  pub mutexes : (m : ℕ) → owner_of (funding_of s) m ≢ Some t

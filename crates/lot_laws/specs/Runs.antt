@@ -7,7 +7,7 @@ use Rattle.lot_machine.specs.declared.ticket.Target.TheVariants.{Currency, Threa
 use Rattle.lot_machine.specs.declared.funding.Node.{Node}
 use Rattle.lot_machine.specs.declared.funding.Node.TheVariants as nodes
 use Rattle.lot_machine.specs.State.{State}
-use Rattle.lot_machine.specs.Worked.{after, base, mktkt, mkcur, mkthr, fund, unfund, fundx}
+use Rattle.lot_machine.specs.Worked.{after, base, mktkt, rmtkt, mkcur, rmcur, mkthr, fund, unfund, fundx}
 use Rattle.lot_machine.specs.WorkedRuns.{halves}
 
 -- a currency of 5 base whose only ticket has the amount 0
@@ -50,6 +50,11 @@ owner_runs = fundx 50 base (codes "a") ∷ fundx 100 base (codes "b") ∷ Draw 1
 abbrev pub owner_receives : List Event
 owner_receives = owner_runs ++ Trap 1 0 (Receive 1) ∷ []
 
+-- threads of 1, 2 and 1 base: the first owns a mutex and runs, and the others wait for it
+abbrev pub two_waiters : List Event
+two_waiters = fundx 1 base (codes "a") ∷ fundx 2 base (codes "b") ∷ fundx 1 base (codes "c") ∷ Draw 1 0 ∷ Trap 1 0 (Lock 1)
+    ∷ Draw 2 0 ∷ Trap 2 0 (Lock 1) ∷ Draw 2 0 ∷ Trap 2 0 (Lock 1) ∷ []
+
 -- two currencies of 100 base, which share a thread: each also has one of its own
 abbrev pub shared_thread : List Event
 shared_thread = mkcur (codes "g") ∷ mkcur (codes "h") ∷ mktkt 100 base ∷ fund 1 (codes "g") ∷ mktkt 100 base ∷ fund 2 (codes "h")
@@ -67,3 +72,11 @@ first_threads other = false
 -- a currency of 100 base that funds a thread, and another currency that funds nothing yet
 abbrev pub idle_currency : List Event
 idle_currency = mkcur (codes "g") ∷ mkcur (codes "h") ∷ mktkt 100 base ∷ fund 1 (codes "g") ∷ fundx 1 (codes "g") (codes "a") ∷ mktkt 1 (codes "g") ∷ fund 3 (codes "h") ∷ []
+
+-- two tickets, of which the first is removed
+abbrev pub ticket_removed : List Event
+ticket_removed = mktkt 5 base ∷ mktkt 6 base ∷ rmtkt 1 ∷ []
+
+-- two currencies, of which the first is removed
+abbrev pub currency_removed : List Event
+currency_removed = mkcur (codes "a") ∷ mkcur (codes "b") ∷ rmcur (codes "a") ∷ []

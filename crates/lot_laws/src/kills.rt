@@ -1,14 +1,18 @@
 //! Kills, as laws of the machine: a killed thread is nowhere, and the threads that waited for it go on (4.6, 6.1).
-ghost use Rattle.std.specs.Prelude.{◌≡◌, ◌≢◌, ℕ, List, [], Contains, Some, None, drop, slice_get};
+ghost use Rattle.std.specs.Prelude.{◌≡◌, ◌≢◌, ◌+◌, ℕ, List, [], Contains, Some, None, false, drop, slice_get};
 ghost use Rattle.lot_machine.specs.declared.reference.ThreadRef.{ThreadRef as Reference};
 ghost use Rattle.lot_machine.specs.declared.record.Record.{Record as ARecord};
 ghost use Rattle.lot_machine.specs.declared.record.Status.TheVariants as status;
+ghost use Rattle.lot_machine.specs.declared.ticket.Ticket.{Ticket as ATicket};
+ghost use Rattle.lot_machine.specs.declared.ticket.Target.TheVariants as target;
+ghost use Rattle.lot_machine.specs.Activity.{is_active};
 ghost use Rattle.lot_machine.specs.Numbered.{at_number};
 ghost use Rattle.lot_machine.specs.Order.{IsInOrder};
 ghost use Rattle.lot_machine.specs.Ports.{clients_of};
-ghost use Rattle.lot_machine.specs.Lends.{borrower_of};
-ghost use Rattle.lot_machine.specs.State.{State, Mutex, funding_of, status_of};
-ghost use Rattle.lot_laws.specs.Kills.{Kills, Owns, WaitsForThread, after_kill};
+ghost use Rattle.lot_machine.specs.Facts.{live_value};
+ghost use Rattle.lot_machine.specs.Lends.{borrower_of, IsBacked, LendsLead};
+ghost use Rattle.lot_machine.specs.State.{State, Mutex, funding_of, live_of, status_of, value_of};
+ghost use Rattle.lot_laws.specs.Kills.{HasOnlyClients, Kills, Owns, WaitsForThread, after_kill};
 ghost use Rattle.lot_laws.specs.Reachable.{IsReachable};
 ghost use Rattle.lot_laws.specs.Removed.{StandsNowhere};
 
@@ -69,4 +73,32 @@ pub fn kills_leave_the_rest()
           ports = (after_kill s thread).ports;
           mutexes = (after_kill s thread).mutexes;
         } }
+{}
+
+/// A dead thread, as one that is killed, lends to nobody and is worth nothing, and the tickets that fund it are
+/// inactive, so they count in no currency's active amount (4.4).
+pub fn dead_threads_have_nothing()
+    ensures lends { (s : State) (t : ℕ) → status_of s.records t ≡ Some status.Dead
+        → borrower_of (funding_of s) t ≡ None }
+    ensures worth { (s : State) (t : ℕ) → IsInOrder s → status_of s.records t ≡ Some status.Dead → value_of s t ≡ 0 }
+    ensures tickets { (s : State) (t : ℕ) (ticket : ATicket) → IsInOrder s → status_of s.records t ≡ Some status.Dead
+        → ticket.target ≡ target.Thread t → is_active (funding_of s) (live_of s) ticket ≡ false }
+{}
+
+/// A kill of a server that has nothing but its clients returns what they lend: each thread to which the server's lends
+/// lead, itself among them, loses the server's value. Every other thread, the clients among them, keeps its value, and
+/// so does the sum over the live threads. The server must be backed. A killed thread with tickets of its own leaves
+/// more to others: `worked::kills` shows one.
+pub fn kills_return_value()
+    ensures behind { (s : State) (thread : Reference) (t behind : ℕ) → IsReachable s
+        → s.limits.without_lending ≡ false → Kills s thread t → HasOnlyClients s t
+        → IsBacked (funding_of s) (live_of s) t → LendsLead (funding_of s) t behind
+        → value_of s behind ≡ value_of (after_kill s thread) behind + value_of s t }
+    ensures others { (s : State) (thread : Reference) (t other : ℕ) → IsReachable s
+        → s.limits.without_lending ≡ false → Kills s thread t → HasOnlyClients s t
+        → IsBacked (funding_of s) (live_of s) t → ¬ LendsLead (funding_of s) t other
+        → value_of (after_kill s thread) other ≡ value_of s other }
+    ensures together { (s : State) (thread : Reference) (t : ℕ) → IsReachable s
+        → s.limits.without_lending ≡ false → Kills s thread t → HasOnlyClients s t
+        → IsBacked (funding_of s) (live_of s) t → live_value (after_kill s thread) ≡ live_value s }
 {}

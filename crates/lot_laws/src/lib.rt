@@ -12,5 +12,7 @@ pub mod queues;
 pub mod reachable;
 pub mod removed;
 pub mod reused;
+pub mod rounds;
 pub mod transfers;
+pub mod unlocks;
 pub mod worked;

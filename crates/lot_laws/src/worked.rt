@@ -3,4 +3,8 @@
 pub mod conservation;
 pub mod fairness;
 pub mod insulation;
+pub mod kills;
+pub mod reused;
+pub mod rounds;
 pub mod transfers;
+pub mod unlocks;
