@@ -1,5 +1,5 @@
 -- The names that this crate's proofs cite, passed on from one place. Declares nothing.
-pub use Rattle.std.proofs.Common.{All, Bool, Contains, List, None, Option, Some, ap, arith, codes, cond, count_by, drop, eq-eqb, false, filter, filter_map, get_or, if◌then◌else◌, inl, inr, is_none, is_some, length, map, max, min, nat_le, nat_lt, not, option_and_then, option_map, position, refl, remove, slice_get, slice_index, slice_set, subst, suc, sum, sum_by, sym, true, unwrap_or, zero, ℕ, [], ◌%◌, ◌&&◌, ◌*◌, ◌++◌, ◌+◌, ◌-◌, ◌/◌, ◌<◌, ◌==◌, ◌^◌, ◌||◌, ◌↔◌, ◌∙◌, ◌∷◌, ◌≡◌, ◌≢◌, ◌≤◌, ◌⊎◌}
+pub use Rattle.std.proofs.Common.{All, Bool, Contains, List, None, Option, Some, [], ap, arith, codes, cond, count_by, drop, eq-eqb, false, filter, filter_map, get_or, if◌then◌else◌, inl, inr, is_none, is_some, length, map, max, min, nat_le, nat_lt, not, option_and_then, option_map, position, refl, remove, slice_get, slice_index, slice_set, subst, suc, sum, sum_by, sym, true, unwrap_or, zero, ℕ, ◌%◌, ◌&&◌, ◌*◌, ◌++◌, ◌+◌, ◌-◌, ◌/◌, ◌<◌, ◌==◌, ◌^◌, ◌||◌, ◌↔◌, ◌∙◌, ◌∷◌, ◌≡◌, ◌≢◌, ◌≤◌, ◌⊎◌}
 pub use Rattle.std.proofs.Math.Nat.{add-mul, div-add-mod', div-le_self, lt-div-mul-add, mod-lt, mul-add, mul-div_cancel, mul-le-mul_right, mul_comm, pow-suc, pow-succ', pow-zero}
 pub use Rattle.std.proofs.lemmas.Bool.{cases_eq, cases_lt, eqb-false, eqb-true, le-leb, le-ltb, lt-ltb, ltb-false, ne_eqb, or_cases, or_parts}
 pub use Rattle.std.proofs.lemmas.List.{length-append, length-map, length-replicate, map-set, set-set}
@@ -95,3 +95,5 @@ pub use Rattle.lot_laws.specs.Removed.{IsNotGiven, IsRemoved, NothingLeadsToRemo
 pub use Rattle.lot_laws.specs.Rounds.{IsBetweenRounds, IsBetweenSlices, IsJustBelow, IsSameLottery, StaysReady, compensation_of, loses_all, replies_in_slices, rounds, ticks_by, ticks_in_all_parts, ticks_in_part, ticks_in_rounds, ticks_of, wins_in_rounds, wins_of}
 pub use Rattle.lot_laws.specs.Runs.{first_threads, three_threads, two_currencies, waiting_server}
 pub use Rattle.lot_laws.specs.Transfers.{LendsQueued, LendsServed, MayWait, OwnsNothing, QueuesAt, QueuesCall, RepliesThenReceives, RepliesThenWaits, RepliesTo, Serves, ServesNextAt, TakesCall, TakesCallAt, TakesQueuedCall, WaitsFor, callers_of, port_value, with_callers_ready, with_ready}
+pub use Rattle.lot_laws.specs.Inside.{EnclosesAlone, NoneCompensated, compensation_in, is_won_inside, ready_inside, ticks_counted, value_inside, weighed_ticks, weight_inside, wins_inside}
+pub use Rattle.lot_laws.specs.TwoRuns.{AgreeOutside, AllAlike, AreAlike, DifferInside, EndOutside, EndsTurn, SameOutside, SetOutside, WinOutside, first_runs, second_runs, weight_outside}

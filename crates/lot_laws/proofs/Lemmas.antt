@@ -18,3 +18,6 @@ pub use Rattle.lot_laws.proofs.StayOut.{reachable-edges, record-stays, stands-no
 pub use Rattle.lot_laws.proofs.StaysInside.{reachable-run, run-amounts, run-inside, run-tickets, well-formed}
 pub use Rattle.lot_laws.proofs.WaitingServer.{owns-nothing}
 pub use Rattle.lot_laws.proofs.WholeRounds.{rounds-all, rounds-binomial, rounds-keep, rounds-mean, rounds-never, rounds-ticks, rounds-wins}
+pub use Rattle.lot_laws.proofs.ValueInside.{run-within, value-within}
+pub use Rattle.lot_laws.proofs.WeightInside.{compensated-within, ticks-within, weight-within}
+pub use Rattle.lot_laws.proofs.WinsInside.{wins-weigh}

@@ -35,6 +35,15 @@ pub mod WaitingServer
 pub mod Enclosed
 pub mod StaysInside
 pub mod Inflated
+pub mod TicketsInside
+pub mod ValueInside
+pub mod WeightInside
+pub mod WinsInside
+pub mod TwoStates
+pub mod SetTwice
+pub mod TwoRuns
+pub mod AlikeRuns
+pub mod FundedAlone
 pub mod Served
 pub mod StayOut
 pub mod FullRefused

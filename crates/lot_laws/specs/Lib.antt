@@ -8,6 +8,10 @@ pub mod Rounds
 pub mod Conservation
 -- Insulation: the nodes that a change can't affect, and the nodes inside a currency (3.2, 3.3).
 pub mod Insulation
+-- What a currency alone funds: values, weights and wins (3.2, 3.3).
+pub mod Inside
+-- Two runs: states that differ only inside a currency, and agree outside (3.3).
+pub mod TwoRuns
 -- Transfers: a blocked thread lends its value to the thread that it waits for (3.1).
 pub mod Transfers
 -- The reachable states, and the properties of their fundings.

@@ -2,6 +2,7 @@
 
 pub mod conservation;
 pub mod fairness;
+pub mod inside;
 pub mod insulation;
 pub mod kills;
 pub mod reused;
